@@ -9,7 +9,8 @@ use lib.Dec.{leb}
 use lib.ListN.{length, set, replicate, length-append}
 use Rattle.std.proofs.shelf.Lists.{set-at}
 use Rattle.std.proofs.shelf.Tests.{leb-true}
-use Rattle.blocks.specs.Format.{little-endian, words, rows-after}
+use Rattle.codes.specs.Bytes.{little-endian}
+use Rattle.blocks.specs.Format.{words, rows-after}
 
 words-length : (k : ℕ) (bytes : List ℕ) → length (words k bytes) ≡ k
 words-length zero bytes = refl

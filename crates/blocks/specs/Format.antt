@@ -1,11 +1,12 @@
 -- The scheme block as bytes, and its refusal. Assumes nothing.
 use mathlib.Core.Bool.{Bool, cond}
 use mathlib.Core.List.{List, [], _∷_, _++_}
-use Prim.Native.Nat.{ℕ, zero, suc, _+_, _-_, _*_}
+use Prim.Native.Nat.{ℕ, zero, suc, _-_, _*_}
 use lib.Dec.{eqb, leb, ltb}
 use lib.ListN.{length, getD, drop, replicate}
 use Rattle.std.specs.declared.result.Result.{Result}
 use Rattle.std.specs.declared.result.Result.the-variants.{Ok, Err}
+use Rattle.codes.specs.Bytes.{little-endian}
 use Rattle.hierarchies.specs.declared.Hierarchy.{Hierarchy as Rows}
 use Rattle.blocks.specs.declared.block.Block.{Block}
 use Rattle.blocks.specs.declared.block.Block.the-variants.{Mask, Ladder, Hierarchy, Ranked}
@@ -32,11 +33,6 @@ abbrev pub told : {P : Type 0} → Result P BlockFault → (P → Parsed) → Re
 told (Ok p) f = Ok (f p)
 told (Err e) f = Err e
 
--- the number of k bytes from place p, the lowest first
-abbrev pub little-endian : ℕ → List ℕ → ℕ → ℕ
-little-endian zero bytes p = 0
-little-endian (suc k) bytes p = getD bytes p 0 + 256 * little-endian k bytes (p + 1)
-
 -- the first k rows, eight bytes each
 abbrev pub words : ℕ → List ℕ → List ℕ
 words zero bytes = []
@@ -46,9 +42,13 @@ words (suc k) bytes = words k bytes ++ (little-endian 8 bytes (8 * k) ∷ [])
 abbrev pub rows-after : ℕ → ℕ
 rows-after n = cond (leb n 64) n 0
 
--- a hierarchy of n roles; the rows from n up are 0
+-- all 64 rows; those that do not follow are 0
+abbrev pub rows-in : ℕ → List ℕ → List ℕ
+rows-in n bytes = words (rows-after n) bytes ++ replicate (64 - rows-after n) 0
+
+-- a hierarchy of n roles
 abbrev pub hierarchy-in : ℕ → List ℕ → Rows
-hierarchy-in n bytes = record { count = n; rows = words (rows-after n) bytes ++ replicate (64 - rows-after n) 0 }
+hierarchy-in n bytes = record { count = n; rows = rows-in n bytes }
 
 -- the bytes after the rows
 abbrev pub after-rows : ℕ → List ℕ → List ℕ

@@ -1,12 +1,12 @@
-ghost use Prim.Native.Nat.{_*_, _+_, _≤_};
-ghost use lib.ListN.{length};
-ghost use mathlib.Core.Bool.{false, true};
+ghost use mathlib.Core.Bool.{cond, false, true};
 ghost use mathlib.Core.Path.{_≡_};
+ghost use Rattle.std.specs.declared.option.Option.the-variants.{None, Some};
 ghost use Rattle.std.specs.declared.result.Result.the-variants.{Err, Ok};
-ghost use Rattle.blocks.specs.Format.{after-rows, block-by, block-of, hierarchy-in, little-endian, has-rows, number-of, place-of, ranked, rows-after, told};
+ghost use Rattle.blocks.specs.Format.{after-rows, block-by, block-of, has-rows, hierarchy-in, number-of, place-of, ranked, rows-after, rows-in, told};
 ghost use Rattle.blocks.specs.Readings.{Scheme-readings};
 use crate::block::Block;
 use crate::block::BlockFault;
+use codes::bytes::read_code;
 use hierarchies::Hierarchy;
 use ladders::Ladder;
 use masks::Mask;
@@ -32,23 +32,6 @@ impl BlockFault {
     }
 }
 
-// The row that stands from place `p` on.
-fn row_at(bytes: &[u8], p: usize) -> u64
-    requires { ⌜ p + 8 ≤ length (now bytes) ⌝ }
-    ensures { λ r. ⌜ r ≡ little-endian 8 (now (bytes .entry)) p ⌝ }
-{
-    u64::from_le_bytes([
-        bytes[p],
-        bytes[p + 1],
-        bytes[p + 2],
-        bytes[p + 3],
-        bytes[p + 4],
-        bytes[p + 5],
-        bytes[p + 6],
-        bytes[p + 7],
-    ])
-}
-
 // How many rows follow a size.
 fn rows_after(size: u8) -> usize
     ensures { λ r. ⌜ r ≡ rows-after size ⌝ }
@@ -56,31 +39,30 @@ fn rows_after(size: u8) -> usize
     if size <= 64 { size as usize } else { 0 }
 }
 
-// A hierarchy of `size` roles; the rows from `size` up are 0.
-fn hierarchy_in(size: u8, bytes: &[u8]) -> Hierarchy
-    requires { ⌜ 8 * rows-after size ≤ length (now bytes) ⌝ }
-    ensures { λ r. ⌜ r ≡ hierarchy-in size (now (bytes .entry)) ⌝ }
+// The 64 rows of a hierarchy, if all that follow the size are there; the others are 0.
+fn read_rows(size: u8, bytes: &[u8]) -> Option<[u64; 64]>
+    ensures { λ r. ⌜ r ≡ cond (has-rows size (now (bytes .entry))) (Some (rows-in size (now (bytes .entry)))) None ⌝ }
 {
     let count = rows_after(size);
     let mut rows = [0; 64];
     for i in 0..count {
-        rows[i] = row_at(bytes, 8 * i);
+        rows[i] = read_code(bytes, 8 * i)?;
     }
-    Hierarchy {
-        count: u32::from(size),
-        rows,
-    }
+    Some(rows)
 }
 
-// A hierarchy and the bytes after its rows.
+// A hierarchy, and the bytes after its rows.
 fn read_hierarchy(size: u8, bytes: &[u8]) -> Result<(Hierarchy, &[u8]), BlockFault>
     ensures { λ r. ⌜ elim r [ Ok p ↦ (has-rows size (now (bytes .entry)) ≡ true) × (p .0 ≡ hierarchy-in size (now (bytes .entry))) × (now (p .1) ≡ after-rows size (now (bytes .entry))) | Err e ↦ (has-rows size (now (bytes .entry)) ≡ false) × (e ≡ BlockFault.NotWhole) ] ⌝ }
 {
-    let end = 8 * rows_after(size);
-    if bytes.len() < end {
+    let Some(rows) = read_rows(size, bytes) else {
         return Err(BlockFault::NotWhole);
-    }
-    Ok((hierarchy_in(size, bytes), &bytes[end..]))
+    };
+    let hierarchy = Hierarchy {
+        count: u32::from(size),
+        rows,
+    };
+    Ok((hierarchy, &bytes[8 * rows_after(size)..]))
 }
 
 // A hierarchy's rows, then a top rank.
