@@ -1,17 +1,17 @@
 -- The dispatcher's decision, from the bytes that it is given. Assumes nothing.
-use mathlib.Core.Path.{_≡_}
-use mathlib.Core.Bool.{Bool, true, not, cond}
+use mathlib.Core.Bool.{not, cond}
 use mathlib.Core.List.{List}
 use Prim.Native.Nat.{ℕ}
-use lib.Dec.{ltb}
+use lib.Dec.{eqb, ltb}
 use lib.ListN.{length}
 use Rattle.std.specs.declared.option.Option.{Option}
 use Rattle.std.specs.declared.option.Option.the-variants.{None, Some}
 use Rattle.std.specs.declared.result.Result.{Result}
 use Rattle.std.specs.declared.result.Result.the-variants.{Ok, Err}
 use Rattle.roles.specs.Meaning.{Meaning}
+use Rattle.codes.specs.Bytes.{little-endian}
 use Rattle.blocks.specs.Kinds.{scheme-of}
-use Rattle.blocks.specs.Format.{Parsed, block-of, little-endian}
+use Rattle.blocks.specs.Format.{Parsed, block-of}
 use Rattle.blocks.specs.Format.{number-of as block-number, place-of as block-place}
 use Rattle.blocks.specs.declared.block.BlockFault.{BlockFault}
 use Rattle.dispatcher.specs.declared.report.Codes.{Codes}
@@ -40,29 +40,33 @@ place-of BoundNoRole = 0
 place-of DutyNoRole = 0
 
 -- the decision on two codes: the questions in their order, then the comparison
-abbrev pub compared : Meaning → ℕ → ℕ → Decision
-compared m duty bound =
+abbrev pub compared : Meaning → Codes → Decision
+compared m codes =
     cond (not (m .sound)) (Refused Unsound)
-    (cond (not (m .role bound)) (Refused BoundNoRole)
-    (cond (not (m .role duty)) (Refused DutyNoRole)
-    (cond (m .dom duty bound) MayStart MayNotStart)))
+    (cond (not (m .role (codes .bound))) (Refused BoundNoRole)
+    (cond (not (m .role (codes .«on_duty»))) (Refused DutyNoRole)
+    (cond (m .dom (codes .«on_duty») (codes .bound)) MayStart MayNotStart)))
 
 -- the codes after a block: the role on duty, then the bound
 abbrev pub codes-in : List ℕ → Codes
-codes-in rest = record { on-duty = little-endian 8 rest 0; bound = little-endian 8 rest 8 }
+codes-in rest = record { «on_duty» = little-endian 8 rest 0; bound = little-endian 8 rest 8 }
+
+-- the refusal of an input whose block is not followed by two codes and nothing else
+abbrev pub wrong-length : Meaning → ℕ → Refusal
+wrong-length m n = cond (m .sound) (cond (ltb n 16) TooShort TooLong) Unsound
 
 -- what is reported after a block was read
 abbrev pub after-block : Parsed → Report
 after-block p =
-    cond (ltb (length (p .rest)) 16) (record { scheme = Some (p .block); codes = None; decision = cond (scheme-of (p .block) .sound) (Refused TooShort) (Refused Unsound) })
-    (cond (ltb 16 (length (p .rest))) (record { scheme = Some (p .block); codes = None; decision = cond (scheme-of (p .block) .sound) (Refused TooLong) (Refused Unsound) })
-    (record { scheme = Some (p .block); codes = Some (codes-in (p .rest)); decision = compared (scheme-of (p .block)) (codes-in (p .rest) .on-duty) (codes-in (p .rest) .bound) }))
+    cond (eqb (length (p .rest)) 16)
+    (record { scheme = Some (p .block); codes = Some (codes-in (p .rest)); decision = compared (scheme-of (p .block)) (codes-in (p .rest)) })
+    (record { scheme = Some (p .block); codes = None; decision = Refused (wrong-length (scheme-of (p .block)) (length (p .rest))) })
 
--- what is reported on an input
+-- what is reported on what was read of a block
 abbrev pub reported : Result Parsed BlockFault → Report
 reported (Ok p) = after-block p
 reported (Err fault) = record { scheme = None; codes = None; decision = Refused (Block fault) }
 
--- the report on an input
+-- the report on an input: a scheme block, the role on duty, the bound
 abbrev pub report-on : List ℕ → Report
 report-on input = reported (block-of input)

@@ -1,5 +1,7 @@
 use blocks::block::Block;
 use blocks::block::BlockFault;
+use blocks::block::BlockFaultDebug;
+use blocks::block::BlockFaultPartialEq;
 
 /// The two role codes that are compared.
 #[derive(Clone, Copy, PartialEq, Eq, Debug)]
