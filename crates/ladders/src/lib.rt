@@ -3,7 +3,7 @@ ghost use Rattle.ladders.specs.Kind.{ladder};
 use roles::scheme::Scheme;
 
 /// The ranks 0 to `top`, sound from top 1 up.
-#[derive(Clone, Copy, PartialEq, Eq, Debug)]
+#[derive(Clone, Copy)]
 pub struct Ladder {
     pub top: u8,
 }

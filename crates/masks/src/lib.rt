@@ -6,7 +6,7 @@ use codes::bits::without;
 use roles::scheme::Scheme;
 
 /// The mask of a width, sound for widths 1 to 64.
-#[derive(Clone, Copy, PartialEq, Eq, Debug)]
+#[derive(Clone, Copy)]
 pub struct Mask {
     pub width: u32,
 }
