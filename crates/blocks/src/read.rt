@@ -81,7 +81,12 @@ fn read_kind(kind: u8, size: u8, bytes: &[u8]) -> Result<(Block, &[u8]), BlockFa
     ensures { λ r. ⌜ told r (λ p. record { block = p .0; rest = now (p .1) }) ≡ block-by kind size (now (bytes .entry)) ⌝ }
 {
     match kind {
-        0 => Ok((Block::Mask(Mask { width: u32::from(size) }), bytes)),
+        0 => Ok((
+            Block::Mask(Mask {
+                width: u32::from(size),
+            }),
+            bytes,
+        )),
         1 => Ok((Block::Ladder(Ladder { top: size }), bytes)),
         2 => {
             let (rows, rest) = read_hierarchy(size, bytes)?;
@@ -108,5 +113,4 @@ pub fn read_block(bytes: &[u8]) -> Result<(Block, &[u8]), BlockFault>
 /// What the kinds answer on small examples.
 pub fn readings()
     ensures { λ _. ⌜ Scheme-readings ⌝ }
-{
-}
+{}

@@ -8,6 +8,9 @@ pub struct Ladder {
     pub top: u8,
 }
 
+// The lowest rank.
+const LOWEST: u64 = 0;
+
 pub impl Scheme for Ladder as LadderScheme {
     ghost meaning = { λ s. ladder (s .top) };
 
@@ -52,6 +55,6 @@ pub impl Scheme for Ladder as LadderScheme {
     }
 
     fn bottom(&self) -> u64 {
-        0
+        LOWEST
     }
 }

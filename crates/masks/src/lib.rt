@@ -11,6 +11,9 @@ pub struct Mask {
     pub width: u32,
 }
 
+// The set of no bits.
+const EMPTY: u64 = 0;
+
 pub impl Scheme for Mask as MaskScheme {
     ghost meaning = { λ s. mask (s .width) };
 
@@ -55,6 +58,6 @@ pub impl Scheme for Mask as MaskScheme {
     }
 
     fn bottom(&self) -> u64 {
-        0
+        EMPTY
     }
 }

@@ -59,7 +59,7 @@ pub impl<A: Scheme, B: Scheme> Scheme for Pair<A, B> as PairScheme {
 
     fn width(&self) -> u32 {
         if self.sound() {
-            self.first.width() + self.second.width()
+            self.second.width() + self.first.width()
         } else {
             64
         }

@@ -16,7 +16,26 @@ fn outcome(input: &[u8]) -> u8 {
 
 // A mask of 8 bits, the role on duty and the bound, each in its low byte, and the byte after it.
 fn mask8(on_duty: u8, duty_high: u8, bound: u8, bound_high: u8) -> [u8; 18] {
-    [0, 8, on_duty, duty_high, 0, 0, 0, 0, 0, 0, bound, bound_high, 0, 0, 0, 0, 0, 0]
+    [
+        0,
+        8,
+        on_duty,
+        duty_high,
+        0,
+        0,
+        0,
+        0,
+        0,
+        0,
+        bound,
+        bound_high,
+        0,
+        0,
+        0,
+        0,
+        0,
+        0,
+    ]
 }
 
 #[test]
@@ -34,8 +53,14 @@ fn bad_input_has_its_number() -> Result<(), Fail> {
     check_eq(outcome(&[4, 0]), 1)?;
     check_eq(outcome(&[0, 0]), 2).note("unsound comes before too short")?;
     check_eq(outcome(&[0, 8]), 3)?;
-    check_eq(outcome(&[0, 8, 0, 0, 0, 0, 0, 0, 0, 0, 0, 0, 0, 0, 0, 0, 0]), 3)?;
-    check_eq(outcome(&[0, 8, 0, 0, 0, 0, 0, 0, 0, 0, 0, 0, 0, 0, 0, 0, 0, 0, 0]), 5)?;
+    check_eq(
+        outcome(&[0, 8, 0, 0, 0, 0, 0, 0, 0, 0, 0, 0, 0, 0, 0, 0, 0]),
+        3,
+    )?;
+    check_eq(
+        outcome(&[0, 8, 0, 0, 0, 0, 0, 0, 0, 0, 0, 0, 0, 0, 0, 0, 0, 0, 0]),
+        5,
+    )?;
     check_eq(outcome(&mask8(1, 0, 1, 1)), 9)?;
     check_eq(outcome(&mask8(1, 1, 1, 0)), 30)?;
     check_eq(outcome(&mask8(1, 1, 1, 1)), 9).note("the bound is asked first")

@@ -31,7 +31,10 @@ fn show_kind<W: fmt::Write>(scheme: &Block, f: &mut fmt::Formatter<W>) -> fmt::R
         Block::Ranked(pair) => {
             let count = pair.first.count;
             let top = pair.second.top;
-            write!(f, "pair of a hierarchy of {count} roles and a ladder with top rank {top}")
+            write!(
+                f,
+                "pair of a hierarchy of {count} roles and a ladder with top rank {top}"
+            )
         }
     }
 }
@@ -55,7 +58,11 @@ fn show_held<W: fmt::Write>(count: u32, code: u64, f: &mut fmt::Formatter<W>) ->
             found = true;
         }
     }
-    if found { Ok(()) } else { write!(f, ", holds none of the roles") }
+    if found {
+        Ok(())
+    } else {
+        write!(f, ", holds none of the roles")
+    }
 }
 
 // What a code holds, where its scheme numbers roles.
@@ -66,7 +73,7 @@ fn show_parts<W: fmt::Write>(scheme: &Block, code: u64, f: &mut fmt::Formatter<W
         Block::Ranked(pair) => {
             show_held(pair.first.count, code >> 8, f)?;
             let rank = code % 256;
-            write!(f, ", rank {rank}")
+            write!(f, " and rank {rank}")
         }
     }
 }
@@ -96,10 +103,16 @@ fn show_refusal<W: fmt::Write>(refusal: Refusal, f: &mut fmt::Formatter<W>) -> f
         }
         Refusal::Unsound => write!(f, "the scheme is not sound"),
         Refusal::TooShort => {
-            write!(f, "the input is too short, two codes of 8 bytes follow the scheme block")
+            write!(
+                f,
+                "the input is too short, two codes of 8 bytes follow the scheme block"
+            )
         }
         Refusal::TooLong => {
-            write!(f, "the input is too long, only two codes of 8 bytes follow the scheme block")
+            write!(
+                f,
+                "the input is too long, only two codes of 8 bytes follow the scheme block"
+            )
         }
         Refusal::BoundNoRole => write!(f, "the bound is no role of the scheme"),
         Refusal::DutyNoRole => write!(f, "the role on duty is no role of the scheme"),
@@ -110,10 +123,16 @@ fn show_refusal<W: fmt::Write>(refusal: Refusal, f: &mut fmt::Formatter<W>) -> f
 fn show_decision<W: fmt::Write>(decision: Decision, f: &mut fmt::Formatter<W>) -> fmt::Result {
     match decision {
         Decision::MayStart => {
-            writeln!(f, "decision: may start, the role on duty dominates the bound")
+            writeln!(
+                f,
+                "decision: may start, the role on duty dominates the bound"
+            )
         }
         Decision::MayNotStart => {
-            writeln!(f, "decision: may not start, the role on duty does not dominate the bound")
+            writeln!(
+                f,
+                "decision: may not start, the role on duty does not dominate the bound"
+            )
         }
         Decision::Refused(refusal) => {
             let number = refusal.number();
