@@ -1,0 +1,78 @@
+-- Worked readings: what inference finds for small terms under two schemes. Assumes nothing.
+use mathlib.Core.Path.{_≡_}
+use mathlib.Core.Bool.{Bool, true, false, cond}
+use mathlib.Core.List.{[]}
+use Prim.Native.Nat.{ℕ, _-_, max, min}
+use lib.Dec.{leb, ltb, eqb}
+use lib.Bits.{bitAnd, bitOr}
+use Rattle.std.specs.declared.option.Option.the-variants.{Some, None}
+use Rattle.roles.specs.Meaning.{Meaning}
+use Rattle.roles.specs.Frame.{Frame, guarded as meaning-of}
+use Rattle.calculus.specs.Syntax.{unit-kind, Ty, base, computation, Term, constant, variable, abstraction, application, guard, check, let-in, raise, restrict}
+use Rattle.calculus.specs.Subtyping.{System, sufficient, necessary}
+use Rattle.calculus.specs.Inference.{infer}
+
+-- The mask of width 8: the roles are the codes below 256, by their bits.
+abbrev pub mask-8 : Meaning
+mask-8 =
+    meaning-of (record {
+      sound = true;
+      width = 8;
+      bottom = 0;
+      role = λ c. ltb c 256;
+      above = λ a b. eqb (bitAnd a b) b;
+      join = bitOr;
+      meet = bitAnd;
+      remainder = λ b a. bitAnd b (255 - a);
+    })
+
+-- The ladder of top 3 with its remainder left open: the roles are the ranks 0 to 3.
+abbrev pub ladder-with : (ℕ → ℕ → ℕ) → Meaning
+ladder-with remainder =
+    meaning-of (record {
+      sound = true;
+      width = 8;
+      bottom = 0;
+      role = λ c. leb c 3;
+      above = λ a b. leb b a;
+      join = max;
+      meet = min;
+      remainder = remainder;
+    })
+
+-- The ladder of top 3: nothing remains of a rank by one at least as high, and all of it by a lower one.
+abbrev pub ladder-3 : Meaning
+ladder-3 = ladder-with (λ b a. cond (leb b a) 0 b)
+
+-- The type Unit, and its value.
+abbrev pub unit-type : Ty
+unit-type = base unit-kind
+
+abbrev pub unit-constant : Term
+unit-constant = constant unit-kind 0
+
+-- check {g}[unit]
+abbrev pub checked : ℕ → Term
+checked g = check (guard g unit-constant)
+
+-- λ x : <a> Unit | <b> Unit. x
+abbrev pub identity : ℕ → ℕ → Term
+identity a b = abstraction (computation a unit-type) (computation b unit-type) (variable 0)
+
+-- The readings.
+pub record Readings : Type 0 where
+  -- let x = check {1}[unit]; check {2}[unit] has the bound 3
+  pub let-joins : (α : System) → infer mask-8 α [] (let-in (checked 1) (checked 2)) ≡ Some (computation 3 unit-type)
+  -- raise 4. check {6}[unit] has the bound 2
+  pub raise-leaves-rest : (α : System) → infer mask-8 α [] (raise 4 (checked 6)) ≡ Some (computation 2 unit-type)
+  -- restrict 2. check {6}[unit] has no sufficient type, and the necessary bound 6
+  pub restrict-insufficient : infer mask-8 sufficient [] (restrict 2 (checked 6)) ≡ None
+  pub restrict-necessary : infer mask-8 necessary [] (restrict 2 (checked 6)) ≡ Some (computation 6 unit-type)
+  -- the identity with the claims <1> Unit and <0> Unit, applied to check {1}[unit], has the bounds 1 and 0
+  pub claim-sufficient : infer mask-8 sufficient [] (application (identity 1 0) (checked 1)) ≡ Some (computation 1 unit-type)
+  pub claim-necessary : infer mask-8 necessary [] (application (identity 1 0) (checked 1)) ≡ Some (computation 0 unit-type)
+  -- with the claims exchanged it has no sufficient type
+  pub claims-exchanged : infer mask-8 sufficient [] (application (identity 0 1) (checked 1)) ≡ None
+  -- on the ladder raise 1. check {3}[unit] has the bound 3, and raise 3. check {2}[unit] the bound 0
+  pub ladder-low-raise : (α : System) → infer ladder-3 α [] (raise 1 (checked 3)) ≡ Some (computation 3 unit-type)
+  pub ladder-high-raise : (α : System) → infer ladder-3 α [] (raise 3 (checked 2)) ≡ Some (computation 0 unit-type)
