@@ -19,7 +19,7 @@ use Rattle.calculus.specs.Theorems.{Steps-keep-closed, Typed-closed}
 use Rattle.calculus.proofs.Options.{none-some, some-same}
 
 -- a term that needs no more than d binders is at home under more
-closed-more : (e : Term) (d c : ℕ) → d ≤ c → closed d e ≡ true → closed c e ≡ true
+pub closed-more : (e : Term) (d c : ℕ) → d ≤ c → closed d e ≡ true → closed c e ≡ true
 closed-more (constant k p) d c l h = refl
 closed-more (variable i) d c l h = let k = ltb-true i d h in lt-ltb i c (omega arith)
 closed-more (abstraction t u e) d c l h = closed-more e (suc d) (suc c) (suc-le-suc l) h
@@ -37,7 +37,7 @@ closed-more (raise a e) d c l h = closed-more e d c l h
 closed-more (restrict a e) d c l h = closed-more e d c l h
 
 -- a closed term in the place of the outermost variable leaves one binder less to need
-closed-substitute : (n : Term) → closed 0 n ≡ true → (e : Term) (d : ℕ) → closed (suc d) e ≡ true → closed d (substitute d n e) ≡ true
+pub closed-substitute : (n : Term) → closed 0 n ≡ true → (e : Term) (d : ℕ) → closed (suc d) e ≡ true → closed d (substitute d n e) ≡ true
 closed-substitute n g (constant k p) d h = refl
 closed-substitute n g (variable i) d h =
     cond-both (eqb i d) n (variable i) (λ x. closed d x ≡ true)

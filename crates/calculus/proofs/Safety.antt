@@ -9,7 +9,7 @@ use Rattle.calculus.specs.Syntax.{Ty, computation, Term}
 use Rattle.calculus.specs.Subtyping.{sufficient, necessary}
 use Rattle.calculus.specs.Typing.{Has}
 use Rattle.calculus.specs.Steps.{Value, Shape-fault, Reaches, here, onward}
-use Rattle.calculus.specs.Theorems.{Sufficient-safety, Necessary-safety}
+use Rattle.calculus.specs.Theorems.{Steps-keep-type, Sufficient-safety, Necessary-safety}
 use Rattle.calculus.proofs.Progress.{Goes, typed-goes, sufficient-faultless}
 use Rattle.calculus.proofs.Keeping.{sufficient-kept, value-needs-nothing, necessary-kept}
 
@@ -22,10 +22,6 @@ module _ {m : Meaning} (L : Lawful m) {r : ℕ} (w : m .role r ≡ true) where
   sound : m .sound ≡ true
   sound = L .role-sound r w
 
-  sufficient-reached : {e e′ : Term} {t : Ty} → Has m sufficient [] e t → Reaches m r e e′ → Has m sufficient [] e′ t
-  sufficient-reached h here = h
-  sufficient-reached h (onward s k) = sufficient-reached (sufficient-kept L sound h s) k
-
   -- a bound that the role does not dominate stays one that it does not dominate
   necessary-reached : {e e′ : Term} {b : ℕ} {t : Ty} → Has m necessary [] e (computation b t) → (m .dom r b ≡ true → ⊥) → Reaches m r e e′ →
       (b′ : ℕ) × Has m necessary [] e′ (computation b′ t) × (m .dom r b′ ≡ true → ⊥)
@@ -34,11 +30,15 @@ module _ {m : Meaning} (L : Lawful m) {r : ℕ} (w : m .role r ≡ true) where
       let i = necessary-kept L sound h s in
       necessary-reached (i .1) (λ d. f (i .2 r (L .reflexive r w) d)) k
 
+pub steps-keep-type : Steps-keep-type sufficient
+steps-keep-type m L r e e′ t h w here = h
+steps-keep-type m L r e e′ t h w (onward {e′ = e₁} s k) = steps-keep-type m L r e₁ e′ t (sufficient-kept L (L .role-sound r w) h s) w k
+
 pub sufficient-safety : Sufficient-safety
 sufficient-safety m L r e e′ t h w g k =
     let s = L .role-sound r w in
-    let i = sufficient-reached L w h k in
-    (i, sufficient-faultless L s i g, goes-fits (typed-goes L s i r w))
+    let i = steps-keep-type m L r e e′ t h w k in
+    (sufficient-faultless L s i g, goes-fits (typed-goes L s i r w))
 
 pub necessary-safety : Necessary-safety
 necessary-safety m L r e e′ b t h w d k =

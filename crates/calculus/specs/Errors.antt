@@ -3,19 +3,18 @@ use mathlib.Core.Path.{_≡_}
 use mathlib.Core.Bool.{true}
 use mathlib.Core.List.{[]}
 use Prim.Native.Nat.{ℕ, _-_, min}
-use Rattle.std.specs.declared.option.Option.the-variants.{Some, None}
 use Rattle.roles.specs.Meaning.{Meaning, Lawful}
+use Rattle.roles.specs.Frame.{guarded as meaning-of}
 use Rattle.calculus.specs.Syntax.{Kind, Ty, base, function, guarded, computation, Term, variable, abstraction, application, guard, check, unit, let-in, raise}
 use Rattle.calculus.specs.Substitution.{substitute}
 use Rattle.calculus.specs.Subtyping.{System, sufficient, role-test}
 use Rattle.calculus.specs.Typing.{Has}
-use Rattle.calculus.specs.Inference.{infer}
 use Rattle.calculus.specs.Steps.{Step, Role-fault, Can-step, Shape-fault}
 use Rattle.calculus.specs.Readings.{ladder-with, ladder-3, unit-type, unit-constant, checked}
 
 -- The ladder with what b has outside a read as the meet of b with the complement of a.
 abbrev pub ladder-by-complement : Meaning
-ladder-by-complement = ladder-with (λ b a. min b (3 - a))
+ladder-by-complement = meaning-of (ladder-with (λ b a. min b (3 - a)))
 
 -- First: with that remainder raise 1. check {3}[unit] is typed at 2, and under role 2 it is a role fault. So it breaks the laws.
 pub record Complement-fails : Type 0 where
@@ -47,7 +46,7 @@ pub record Forward-fails : Type 0 where
   pub suffices : ladder-3 .dom 0 0 ≡ true
   pub steps : Step ladder-3 0 (application opener locked) (check locked)
   pub faults : Role-fault ladder-3 0 (check locked)
-  pub untyped : infer ladder-3 sufficient [] (application opener locked) ≡ None
+  pub untyped : (t : Ty) → Has ladder-3 sufficient [] (application opener locked) t → ⊥
 
 -- λ x : Unit | Unit. [x]
 abbrev pub wrapper : Term

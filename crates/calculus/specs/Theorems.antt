@@ -58,10 +58,16 @@ Inference-least =
     Has m α Γ e t × ((s : Ty) → Has m α Γ e s → Subtype m α t s)
 
 -- 2. Under a role that dominates the sufficient bound, steps keep the type and lead to no fault.
+
+-- In a system, steps under a role keep the type. This holds in the sufficient one; in the necessary one a step may lower the bound.
+abbrev pub Steps-keep-type : System → Type 0
+Steps-keep-type α =
+    (m : Meaning) → Lawful m → (r : ℕ) (e e′ : Term) (t : Ty) → Has m α [] e t → m .role r ≡ true → Reaches m r e e′ → Has m α [] e′ t
+
 abbrev pub Sufficient-safety : Type 0
 Sufficient-safety =
     (m : Meaning) → Lawful m → (r : ℕ) (e e′ : Term) (t : Ty) → Has m sufficient [] e t → m .role r ≡ true → Suffices m r t → Reaches m r e e′ →
-    Has m sufficient [] e′ t × (Role-fault m r e′ → ⊥) × (Shape-fault m r e′ → ⊥)
+    (Role-fault m r e′ → ⊥) × (Shape-fault m r e′ → ⊥)
 
 -- 3. Under a role that does not dominate the necessary bound, steps lead to no value and to no shape fault.
 abbrev pub Necessary-safety : Type 0

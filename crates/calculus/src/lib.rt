@@ -1,6 +1,7 @@
 //! The calculus of role guards: its types, its terms, two type systems, its steps, and the theorems about them.
 //! The definitions are in specs/, and docs/calculus.md reads them aloud. Each function stands for one theorem, which specs/ states for every lawful scheme.
-ghost use Rattle.calculus.specs.Theorems.{Subtyping-reflexive, Subtyping-transitive, Subtyping-antisymmetric, Subtyping-decided, Inference-sound, Inference-decides, Inference-least, Sufficient-safety, Necessary-safety, Outcome-unique, Next-decides, Steps-keep-closed, Typed-closed, Steps-counted, Dominating-role-steps, Raising-needs-remainder};
+ghost use Rattle.calculus.specs.Theorems.{Subtyping-reflexive, Subtyping-transitive, Subtyping-antisymmetric, Subtyping-decided, Inference-sound, Inference-decides, Inference-least, Steps-keep-type, Sufficient-safety, Necessary-safety, Outcome-unique, Next-decides, Steps-keep-closed, Typed-closed, Steps-counted, Dominating-role-steps, Raising-needs-remainder};
+ghost use Rattle.calculus.specs.Subtyping.{sufficient, necessary};
 ghost use Rattle.calculus.specs.Readings.{Readings};
 ghost use Rattle.calculus.specs.Errors.{Tempting-errors-fail};
 
@@ -39,7 +40,17 @@ pub fn inference_least()
     ensures { λ _. ⌜ Inference-least ⌝ }
 {}
 
-/// Under a role that dominates the sufficient bound, steps keep the type, and no term reached is a role fault or a shape fault.
+/// Steps under a role keep the sufficient type.
+pub fn steps_keep_type()
+    ensures { λ _. ⌜ Steps-keep-type sufficient ⌝ }
+{}
+
+/// They do not keep the necessary type: a step may lower the bound.
+pub fn necessary_type_falls()
+    ensures { λ _. ⌜ (Steps-keep-type necessary → ⊥) ⌝ }
+{}
+
+/// Under a role that dominates the sufficient bound no term reached is a role fault or a shape fault.
 pub fn sufficient_safety()
     ensures { λ _. ⌜ Sufficient-safety ⌝ }
 {}
