@@ -12,7 +12,7 @@ use Rattle.calculus.specs.Syntax.{Ty, base, function, guarded, computation, Te
 use Rattle.calculus.specs.Subtyping.{System, sufficient, necessary, role-test, Subtype, base-below, function-below, guarded-below, computation-below, well-coded}
 use Rattle.calculus.specs.Typing.{lookup, claim, permits, Has, has-constant, has-variable, has-abstraction, has-application, has-fix, has-guard, has-check, has-unit, has-let, has-raise, has-restrict, subsumption}
 use Rattle.calculus.specs.Inference.{is-subtype, infer}
-use Rattle.calculus.specs.Theorems.{Well-coded, Inference-decides, Inference-least}
+use Rattle.calculus.specs.Theorems.{Coded-environment, Inference-decides, Inference-least}
 use Rattle.calculus.proofs.Options.{some-same}
 use Rattle.calculus.proofs.Laws.{left-role, across, over-left, over-right, over-join, join-there, remainder-there, remainder-by, remainder-role, enough, needed}
 use Rattle.calculus.proofs.Order.{test-left, test-same, below-same, below-across}
@@ -134,7 +134,7 @@ module _ {m : Meaning} (L : Lawful m) (sound : m .sound ≡ true) (α : System) 
   infer-complete (has-restrict {a = a} {e = e} h w q) Δ b = let i = infer-complete h Δ b in finds-restrict Δ a e (i .1) (i .2) w q
   infer-complete (subsumption {t = s} h k) Δ b = let i = infer-complete h Δ b in (i .0, i .1, below-across L α s (i .2) k)
 
-finds-below : (m : Meaning) → Lawful m → m .sound ≡ true → (α : System) (Γ : List Ty) → Well-coded m Γ → (e : Term) (t : Ty) → Has m α Γ e t →
+finds-below : (m : Meaning) → Lawful m → m .sound ≡ true → (α : System) (Γ : List Ty) → Coded-environment m Γ → (e : Term) (t : Ty) → Has m α Γ e t →
     (s : Ty) × (infer m α Γ e ≡ Some s) × Subtype m α s t
 finds-below m L sound α Γ w e t h = infer-complete L sound α h Γ (λ i s l. (s, l, below-same L α s (w i s l)))
 

@@ -11,21 +11,21 @@ use Rattle.roles.proofs.Deciding.{join-role}
 use Rattle.calculus.specs.Syntax.{Kind, Ty, base, function, guarded, computation, Term, constant, abstraction, guard, unit}
 use Rattle.calculus.specs.Subtyping.{System, role-test, Subtype, base-below, function-below, guarded-below, computation-below, well-coded}
 use Rattle.calculus.specs.Typing.{lookup, claim, Has, has-constant, has-variable, has-abstraction, has-application, has-fix, has-guard, has-check, has-unit, has-let, has-raise, has-restrict, subsumption}
-use Rattle.calculus.specs.Theorems.{Well-coded}
+use Rattle.calculus.specs.Theorems.{Coded-environment}
 use Rattle.calculus.proofs.Options.{none-some, some-same}
 use Rattle.calculus.proofs.Laws.{remainder-role}
 use Rattle.calculus.proofs.Order.{below-coded, below-same, below-across}
 
-well-coded-more : (m : Meaning) (Γ : List Ty) (t : Ty) → well-coded m t ≡ true → Well-coded m Γ → Well-coded m (t ∷ Γ)
+well-coded-more : (m : Meaning) (Γ : List Ty) (t : Ty) → well-coded m t ≡ true → Coded-environment m Γ → Coded-environment m (t ∷ Γ)
 well-coded-more m Γ t h g zero r e = subst (λ (x : Ty). well-coded m x ≡ true) (some-same e) h
 well-coded-more m Γ t h g (suc i) r e = g i r e
 
-well-coded-none : (m : Meaning) → Well-coded m []
+well-coded-none : (m : Meaning) → Coded-environment m []
 well-coded-none m i t e = absurd (none-some e)
 
 module _ {m : Meaning} (L : Lawful m) (sound : m .sound ≡ true) {α : System} where
   -- what has a type has one whose codes are roles
-  has-coded : {Γ : List Ty} {e : Term} {t : Ty} → Has m α Γ e t → Well-coded m Γ → well-coded m t ≡ true
+  has-coded : {Γ : List Ty} {e : Term} {t : Ty} → Has m α Γ e t → Coded-environment m Γ → well-coded m t ≡ true
   has-coded has-constant g = refl
   has-coded (has-variable {i = i} {t = t} h) g = g i t h
   has-coded (has-abstraction {Γ} {t} {u} w h) g = and-from _ _ w (has-coded h (well-coded-more m Γ (claim α t u) w g))

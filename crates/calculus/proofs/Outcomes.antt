@@ -25,33 +25,22 @@ module _ (m : Meaning) where
   value-faultless guard-value s = elim s [ ]
   value-faultless unit-value s = elim s [ ]
 
-  -- what a form does by its first operand, which is a value or is none
+  -- a form acts on a value, and else does what its operand does inside
   at-value : {e : Term} (v : Value e) (act : Value e → Outcome) (o : Outcome) → by-operand (as-value e) act o ≡ act v
   at-value constant-value act o = refl
   at-value abstraction-value act o = refl
   at-value guard-value act o = refl
   at-value unit-value act o = refl
 
-  at-none : {e : Term} (x : Option (Value e)) → (Value e → ⊥) → (act : Value e → Outcome) (o : Outcome) → by-operand x act o ≡ o
-  at-none None f act o = refl
-  at-none (Some v) f act o = absurd (f v)
+  at-none : {e : Term} {o p : Outcome} (act : Value e → Outcome) → (Value e → ⊥) → o ≡ p → by-operand (as-value e) act o ≡ p
+  at-none {e} {o} {p} act f h = go (as-value e)
+    where
+      go : (x : Option (Value e)) → by-operand x act o ≡ p
+      go None = h
+      go (Some v) = absurd (f v)
 
-  -- an operand that goes on makes the whole go on, and one at a fault makes it a fault
-  moves : {e e′ : Term} {r : ℕ} (act : Value e → Outcome) (f : Term → Term) → Step m r e e′ → next m r e ≡ goes-to e′ → by-operand (as-value e) act (inside (next m r e) f) ≡ goes-to (f e′)
-  moves {e} {r = r} act f s h = at-none (as-value e) (λ v. value-rests v s) act (inside (next m r e) f) ∙ ap (λ o. inside o f) h
-
-  fails : {e : Term} {r : ℕ} (act : Value e → Outcome) (f : Term → Term) → Role-fault m r e → next m r e ≡ role-fault → by-operand (as-value e) act (inside (next m r e) f) ≡ role-fault
-  fails {e} {r} act f s h = at-none (as-value e) (λ v. value-faultless v s) act (inside (next m r e) f) ∙ ap (λ o. inside o f) h
-
-  moves-under : {e e′ : Term} {j : ℕ} {x : Option ℕ} (act : Value e → Outcome) (f : Term → Term) → x ≡ Some j → Step m j e e′ → next m j e ≡ goes-to e′ →
-      by-operand (as-value e) act (under x (λ i. inside (next m i e) f)) ≡ goes-to (f e′)
-  moves-under {e} {j = j} {x} act f p s h =
-      at-none (as-value e) (λ v. value-rests v s) act (under x (λ i. inside (next m i e) f)) ∙ ap (λ y. under y (λ i. inside (next m i e) f)) p ∙ ap (λ o. inside o f) h
-
-  fails-under : {e : Term} {j : ℕ} {x : Option ℕ} (act : Value e → Outcome) (f : Term → Term) → x ≡ Some j → Role-fault m j e → next m j e ≡ role-fault →
-      by-operand (as-value e) act (under x (λ i. inside (next m i e) f)) ≡ role-fault
-  fails-under {e} {j} {x} act f p s h =
-      at-none (as-value e) (λ v. value-faultless v s) act (under x (λ i. inside (next m i e) f)) ∙ ap (λ y. under y (λ i. inside (next m i e) f)) p ∙ ap (λ o. inside o f) h
+  under-at : {x : Option ℕ} {j : ℕ} (f : ℕ → Outcome) → x ≡ Some j → under x f ≡ f j
+  under-at f p = ap (λ y. under y f) p
 
   -- `next` finds what the rules say
   next-value : (r : ℕ) {e : Term} → Value e → next m r e ≡ value
@@ -69,22 +58,22 @@ module _ (m : Meaning) where
   next-step hand-over = refl
   next-step (leave-raise {v = e} v) = at-value v (λ v. goes-to e) _
   next-step (leave-restrict {v = e} v) = at-value v (λ v. goes-to e) _
-  next-step (in-application {x = x} s) = moves (act-application x) (λ y. application y x) s (next-step s)
-  next-step (in-fix s) = moves act-fix fix s (next-step s)
-  next-step (in-check {r} s) = moves (act-check m r) check s (next-step s)
-  next-step (in-let {u = u} s) = moves (act-let u) (λ y. let-in y u) s (next-step s)
-  next-step (in-raise {a = a} {e = e} p s) = moves-under (λ v. goes-to e) (raise a) p s (next-step s)
-  next-step (in-restrict {a = a} {e = e} p s) = moves-under (λ v. goes-to e) (restrict a) p s (next-step s)
+  next-step (in-application {x = x} s) = at-none (act-application x) (λ v. value-rests v s) (ap (λ o. inside o (λ y. application y x)) (next-step s))
+  next-step (in-fix s) = at-none act-fix (λ v. value-rests v s) (ap (λ o. inside o fix) (next-step s))
+  next-step (in-check {r} s) = at-none (act-check m r) (λ v. value-rests v s) (ap (λ o. inside o check) (next-step s))
+  next-step (in-let {u = u} s) = at-none (act-let u) (λ v. value-rests v s) (ap (λ o. inside o (λ y. let-in y u)) (next-step s))
+  next-step (in-raise {a = a} {e = e} p s) = at-none (λ v. goes-to e) (λ v. value-rests v s) (under-at (λ j. inside (next m j e) (raise a)) p ∙ ap (λ o. inside o (raise a)) (next-step s))
+  next-step (in-restrict {a = a} {e = e} p s) = at-none (λ v. goes-to e) (λ v. value-rests v s) (under-at (λ j. inside (next m j e) (restrict a)) p ∙ ap (λ o. inside o (restrict a)) (next-step s))
 
   next-fault : {r : ℕ} {e : Term} → Role-fault m r e → next m r e ≡ role-fault
   unfolding next
   next-fault (refused {e = e} h) = ap (λ b. opened b e) h
-  next-fault (fault-in-application {x = x} s) = fails (act-application x) (λ y. application y x) s (next-fault s)
-  next-fault (fault-in-fix s) = fails act-fix fix s (next-fault s)
-  next-fault (fault-in-check {r} s) = fails (act-check m r) check s (next-fault s)
-  next-fault (fault-in-let {u = u} s) = fails (act-let u) (λ y. let-in y u) s (next-fault s)
-  next-fault (fault-in-raise {a = a} {e = e} p s) = fails-under (λ v. goes-to e) (raise a) p s (next-fault s)
-  next-fault (fault-in-restrict {a = a} {e = e} p s) = fails-under (λ v. goes-to e) (restrict a) p s (next-fault s)
+  next-fault (fault-in-application {x = x} s) = at-none (act-application x) (λ v. value-faultless v s) (ap (λ o. inside o (λ y. application y x)) (next-fault s))
+  next-fault (fault-in-fix s) = at-none act-fix (λ v. value-faultless v s) (ap (λ o. inside o fix) (next-fault s))
+  next-fault (fault-in-check {r} s) = at-none (act-check m r) (λ v. value-faultless v s) (ap (λ o. inside o check) (next-fault s))
+  next-fault (fault-in-let {u = u} s) = at-none (act-let u) (λ v. value-faultless v s) (ap (λ o. inside o (λ y. let-in y u)) (next-fault s))
+  next-fault (fault-in-raise {a = a} {e = e} p s) = at-none (λ v. goes-to e) (λ v. value-faultless v s) (under-at (λ j. inside (next m j e) (raise a)) p ∙ ap (λ o. inside o (raise a)) (next-fault s))
+  next-fault (fault-in-restrict {a = a} {e = e} p s) = at-none (λ v. goes-to e) (λ v. value-faultless v s) (under-at (λ j. inside (next m j e) (restrict a)) p ∙ ap (λ o. inside o (restrict a)) (next-fault s))
 
   -- what an outcome says of a term, of a shape fault nothing yet
   abbrev Shows : ℕ → Term → Outcome → Type 0

@@ -15,8 +15,8 @@ use Rattle.calculus.specs.Steps.{Value, Step, put-in, Role-fault, Shape-fault,
 use Rattle.calculus.specs.Next.{Outcome, Says, next}
 
 -- Every code in the types of the environment is a role. The empty environment is such.
-abbrev pub Well-coded : Meaning → List Ty → Type 0
-Well-coded m Γ = (i : ℕ) (t : Ty) → lookup Γ i ≡ Some t → well-coded m t ≡ true
+abbrev pub Coded-environment : Meaning → List Ty → Type 0
+Coded-environment m Γ = (i : ℕ) (t : Ty) → lookup Γ i ≡ Some t → well-coded m t ≡ true
 
 -- The role r dominates the role of the type, if it is a computation.
 abbrev pub Suffices : Meaning → ℕ → Ty → Type 0
@@ -48,13 +48,13 @@ Inference-sound = (m : Meaning) → Lawful m → (α : System) (Γ : List Ty) (e
 -- A term has a type by the rules exactly if inference finds one. (A scheme with no roles has no least computation type, so it is left out.)
 abbrev pub Inference-decides : Type 0
 Inference-decides =
-    (m : Meaning) → Lawful m → m .sound ≡ true → (α : System) (Γ : List Ty) → Well-coded m Γ → (e : Term) →
+    (m : Meaning) → Lawful m → m .sound ≡ true → (α : System) (Γ : List Ty) → Coded-environment m Γ → (e : Term) →
     ((t : Ty) × Has m α Γ e t) ↔ ((t : Ty) × (infer m α Γ e ≡ Some t))
 
 -- The type that it finds is the least: it is one by the rules, and below every other.
 abbrev pub Inference-least : Type 0
 Inference-least =
-    (m : Meaning) → Lawful m → m .sound ≡ true → (α : System) (Γ : List Ty) → Well-coded m Γ → (e : Term) (t : Ty) → infer m α Γ e ≡ Some t →
+    (m : Meaning) → Lawful m → m .sound ≡ true → (α : System) (Γ : List Ty) → Coded-environment m Γ → (e : Term) (t : Ty) → infer m α Γ e ≡ Some t →
     Has m α Γ e t × ((s : Ty) → Has m α Γ e s → Subtype m α t s)
 
 -- 2. Under a role that dominates the sufficient bound, steps keep the type and lead to no fault.
