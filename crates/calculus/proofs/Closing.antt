@@ -1,19 +1,18 @@
 -- Closed terms stay closed, and only closed terms are put in. Assumes nothing.
-use mathlib.Core.Path.{_≡_, refl, sym, ap, subst, _∙_}
-use mathlib.Core.Bool.{Bool, true, false, cond, _&&_}
+use mathlib.Core.Path.{_≡_, refl, subst}
+use mathlib.Core.Bool.{true}
 use mathlib.Core.List.{List, [], _∷_}
 use Prim.Native.Nat.{ℕ, zero, suc, _≤_, _<_, zero-le, suc-le-suc}
 use native.Mathlib.Omega.{arith}
-use lib.Dec.{eqb, ltb, leb·suc-suc, leb·zero}
+use lib.Dec.{eqb}
 use lib.ListN.{length}
-use Rattle.std.specs.declared.option.Option.{Option}
-use Rattle.std.specs.declared.option.Option.the-variants.{Some, None}
+use Rattle.std.specs.declared.option.Option.the-variants.{Some}
 use Rattle.std.proofs.shelf.Tests.{and-parts, and-from, cond-both, ltb-true, lt-ltb, eqb-false}
 use Rattle.roles.specs.Meaning.{Meaning}
 use Rattle.calculus.specs.Syntax.{Ty, Term, constant, variable, abstraction, application, fix, guard, check, unit, let-in, raise, restrict}
 use Rattle.calculus.specs.Substitution.{closed, substitute}
 use Rattle.calculus.specs.Subtyping.{System}
-use Rattle.calculus.specs.Typing.{lookup, claim, Has, has-constant, has-variable, has-abstraction, has-application, has-fix, has-guard, has-check, has-unit, has-let, has-raise, has-restrict, subsumption}
+use Rattle.calculus.specs.Typing.{lookup, Has, has-constant, has-variable, has-abstraction, has-application, has-fix, has-guard, has-check, has-unit, has-let, has-raise, has-restrict, subsumption}
 use Rattle.calculus.specs.Steps.{Step, apply, unroll, pass, hand-over, leave-raise, leave-restrict, in-application, in-fix, in-check, in-let, in-raise, in-restrict, put-in}
 use Rattle.calculus.specs.Theorems.{Steps-keep-closed, Typed-closed}
 use Rattle.calculus.proofs.Options.{none-some, some-same}

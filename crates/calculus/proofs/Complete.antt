@@ -1,20 +1,17 @@
 -- Inference finds a type below every type that the rules give. Assumes nothing.
 use mathlib.Core.Path.{_≡_, refl, subst}
-use mathlib.Core.Bool.{Bool, true, false, _&&_}
-use mathlib.Core.List.{List, [], _∷_}
-use mathlib.Core.Logic.{_↔_}
+use mathlib.Core.Bool.{true}
+use mathlib.Core.List.{List, _∷_}
 use Prim.Native.Nat.{ℕ, zero, suc}
-use Rattle.std.specs.declared.option.Option.{Option}
-use Rattle.std.specs.declared.option.Option.the-variants.{Some, None}
-use Rattle.std.proofs.shelf.Tests.{and-from}
+use Rattle.std.specs.declared.option.Option.the-variants.{Some}
 use Rattle.roles.specs.Meaning.{Meaning, Lawful}
-use Rattle.calculus.specs.Syntax.{Ty, base, function, guarded, computation, Term, constant, variable, abstraction, application, fix, guard, check, unit, let-in, raise, restrict}
+use Rattle.calculus.specs.Syntax.{Ty, base, function, guarded, computation, Term, abstraction, application, fix, guard, check, unit, let-in, raise, restrict}
 use Rattle.calculus.specs.Subtyping.{System, sufficient, necessary, role-test, Subtype, base-below, function-below, guarded-below, computation-below, well-coded}
 use Rattle.calculus.specs.Typing.{lookup, claim, permits, Has, has-constant, has-variable, has-abstraction, has-application, has-fix, has-guard, has-check, has-unit, has-let, has-raise, has-restrict, subsumption}
-use Rattle.calculus.specs.Inference.{is-subtype, infer}
+use Rattle.calculus.specs.Inference.{infer}
 use Rattle.calculus.specs.Theorems.{Coded-environment, Inference-decides, Inference-least}
 use Rattle.calculus.proofs.Options.{some-same}
-use Rattle.calculus.proofs.Laws.{left-role, across, over-left, over-right, over-join, join-there, remainder-there, remainder-by, remainder-role, enough, needed}
+use Rattle.calculus.proofs.Laws.{across, over-left, over-right, over-join, join-there, remainder-there, remainder-by, remainder-role, enough, needed}
 use Rattle.calculus.proofs.Order.{test-left, test-same, below-same, below-across}
 use Rattle.calculus.proofs.Test.{rules-to-test}
 use Rattle.calculus.proofs.Sound.{infer-sound}

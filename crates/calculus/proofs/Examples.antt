@@ -1,13 +1,13 @@
 -- The readings and the tempting errors, by computation. Assumes nothing.
-use mathlib.Core.Path.{_≡_, refl, sym, ap, _∙_}
+use mathlib.Core.Path.{_≡_, refl}
 use mathlib.Core.Bool.{Bool, true, false, true≢false, false≢true}
 use mathlib.Core.List.{[]}
-use Prim.Native.Nat.{ℕ, _≤_, _<_}
+use Prim.Native.Nat.{ℕ, _≤_}
 use native.Mathlib.Omega.{arith}
 use lib.Bits.{bitAnd, and-le-l}
-use Rattle.std.specs.declared.option.Option.the-variants.{Some, None}
+use Rattle.std.specs.declared.option.Option.the-variants.{Some}
 use Rattle.std.proofs.shelf.Tests.{lt-ltb, ne-eqb}
-use Rattle.calculus.specs.Syntax.{Ty, computation, application, fix, unit, restrict}
+use Rattle.calculus.specs.Syntax.{computation, application, fix, unit, restrict}
 use Rattle.calculus.specs.Substitution.{substitute}
 use Rattle.calculus.specs.Subtyping.{System, sufficient, necessary}
 use Rattle.calculus.specs.Typing.{has-constant, has-variable, has-abstraction, has-application, has-guard, has-check, has-unit, has-let, has-raise}

@@ -1,8 +1,7 @@
 -- A role that dominates another makes the other's steps. Assumes nothing.
-use mathlib.Core.Path.{_≡_, refl}
+use mathlib.Core.Path.{_≡_}
 use mathlib.Core.Bool.{true}
 use Prim.Native.Nat.{ℕ}
-use Rattle.std.specs.declared.option.Option.the-variants.{Some}
 use Rattle.roles.specs.Meaning.{Meaning, Lawful}
 use Rattle.calculus.specs.Syntax.{Term}
 use Rattle.calculus.specs.Steps.{Step, apply, unroll, pass, hand-over, leave-raise, leave-restrict, in-application, in-fix, in-check, in-let, in-raise, in-restrict, Steps, no-step, one-more}

@@ -1,16 +1,14 @@
 -- What the type of a closed term says: its codes are roles, and a value has the parts that its type names. Assumes nothing.
 use mathlib.Core.Path.{_≡_, refl, subst}
-use mathlib.Core.Bool.{Bool, true, false, _&&_}
+use mathlib.Core.Bool.{true}
 use mathlib.Core.List.{List, [], _∷_}
 use Prim.Native.Nat.{ℕ, zero, suc}
-use Rattle.std.specs.declared.option.Option.{Option}
-use Rattle.std.specs.declared.option.Option.the-variants.{Some, None}
 use Rattle.std.proofs.shelf.Tests.{and-parts, and-from}
 use Rattle.roles.specs.Meaning.{Meaning, Lawful}
 use Rattle.roles.proofs.Deciding.{join-role}
 use Rattle.calculus.specs.Syntax.{Kind, Ty, base, function, guarded, computation, Term, constant, abstraction, guard, unit}
 use Rattle.calculus.specs.Subtyping.{System, role-test, Subtype, base-below, function-below, guarded-below, computation-below, well-coded}
-use Rattle.calculus.specs.Typing.{lookup, claim, Has, has-constant, has-variable, has-abstraction, has-application, has-fix, has-guard, has-check, has-unit, has-let, has-raise, has-restrict, subsumption}
+use Rattle.calculus.specs.Typing.{claim, Has, has-constant, has-variable, has-abstraction, has-application, has-fix, has-guard, has-check, has-unit, has-let, has-raise, has-restrict, subsumption}
 use Rattle.calculus.specs.Theorems.{Coded-environment}
 use Rattle.calculus.proofs.Options.{none-some, some-same}
 use Rattle.calculus.proofs.Laws.{remainder-role}

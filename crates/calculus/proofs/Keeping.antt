@@ -1,11 +1,10 @@
 -- A step keeps the sufficient type, and of the necessary type what it says of the roles above the context role. Assumes nothing.
 use mathlib.Core.Path.{_≡_, refl}
 use mathlib.Core.Bool.{true}
-use mathlib.Core.List.{List, []}
+use mathlib.Core.List.{[]}
 use Prim.Native.Nat.{ℕ}
-use Rattle.std.specs.declared.option.Option.the-variants.{Some}
 use Rattle.roles.specs.Meaning.{Meaning, Lawful}
-use Rattle.calculus.specs.Syntax.{Ty, base, function, guarded, computation, Term, abstraction, application, fix}
+use Rattle.calculus.specs.Syntax.{Ty, base, function, guarded, computation, Term, abstraction}
 use Rattle.calculus.specs.Substitution.{substitute}
 use Rattle.calculus.specs.Subtyping.{System, sufficient, necessary, Subtype, base-below, function-below, guarded-below, computation-below}
 use Rattle.calculus.specs.Typing.{Has, has-constant, has-variable, has-abstraction, has-application, has-fix, has-guard, has-check, has-unit, has-let, has-raise, has-restrict, subsumption}

@@ -1,7 +1,7 @@
 -- The ladder of the readings is lawful, so what is said of every lawful scheme is said of one at least. Assumes nothing.
 use mathlib.Core.Path.{_≡_, refl}
 use mathlib.Core.Bool.{Bool, true, false, cond}
-use Prim.Native.Nat.{ℕ, zero-le, _≤_, _<_, max, min}
+use Prim.Native.Nat.{ℕ, zero-le, max, min}
 use native.Mathlib.Omega.{arith}
 use lib.Dec.{leb, lit≤}
 use Rattle.std.proofs.shelf.Tests.{leb-true, leb-false, le-leb}

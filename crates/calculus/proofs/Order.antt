@@ -1,6 +1,6 @@
 -- Subtyping is a partial order on the types whose codes are roles, and relates no others. Assumes nothing.
 use mathlib.Core.Path.{_≡_, refl, sym, ap₂}
-use mathlib.Core.Bool.{Bool, true, false, _&&_}
+use mathlib.Core.Bool.{true}
 use Prim.Native.Nat.{ℕ}
 use Rattle.std.proofs.shelf.Tests.{and-parts, and-from}
 use Rattle.roles.specs.Meaning.{Meaning, Lawful}

@@ -1,13 +1,11 @@
 -- Each term has one outcome, and `next` finds it. Assumes nothing.
-use mathlib.Core.Path.{_≡_, refl, sym, _∙_, ap, subst}
+use mathlib.Core.Path.{_≡_, refl, _∙_, ap, subst}
 use mathlib.Core.Bool.{Bool, true, false, false≢true}
-use mathlib.Core.Logic.{_↔_}
-use Prim.Native.Nat.{ℕ, zero, suc}
+use Prim.Native.Nat.{ℕ, suc}
 use Rattle.std.specs.declared.option.Option.{Option}
 use Rattle.std.specs.declared.option.Option.the-variants.{Some, None}
 use Rattle.roles.specs.Meaning.{Meaning}
-use Rattle.calculus.specs.Syntax.{Ty, Term, constant, variable, abstraction, application, fix, guard, check, unit, let-in, raise, restrict}
-use Rattle.calculus.specs.Substitution.{substitute}
+use Rattle.calculus.specs.Syntax.{Term, constant, variable, abstraction, application, fix, guard, check, unit, let-in, raise, restrict}
 use Rattle.calculus.specs.Steps.{Value, constant-value, abstraction-value, guard-value, unit-value, Step, apply, unroll, pass, hand-over, leave-raise, leave-restrict, in-application, in-fix, in-check, in-let, in-raise, in-restrict, Role-fault, refused, fault-in-application, fault-in-fix, fault-in-check, fault-in-let, fault-in-raise, fault-in-restrict, Shape-fault, Reaches, here, onward, Steps, no-step, one-more}
 use Rattle.calculus.specs.Next.{Outcome, value, goes-to, role-fault, shape-fault, Says, as-value, by-operand, inside, under, act-application, act-fix, opened, act-check, act-let, next}
 use Rattle.calculus.specs.Theorems.{Outcome-unique, Next-decides, Steps-counted}

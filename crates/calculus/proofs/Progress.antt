@@ -1,13 +1,12 @@
 -- A closed term with a type is no shape fault, and no role fault under a role that suffices. Assumes nothing.
 use mathlib.Core.Path.{_≡_, refl, sym, _∙_}
 use mathlib.Core.Bool.{Bool, true, false, true≢false}
-use mathlib.Core.List.{List, []}
+use mathlib.Core.List.{[]}
 use mathlib.Core.Logic.{_⊎_, inl, inr}
 use Prim.Native.Nat.{ℕ}
-use Rattle.std.specs.declared.option.Option.the-variants.{Some}
 use Rattle.roles.specs.Meaning.{Meaning, Lawful}
 use Rattle.roles.proofs.Deciding.{join-role, meet-role}
-use Rattle.calculus.specs.Syntax.{Ty, base, function, guarded, computation, Term, abstraction, application, fix, guard, check, unit, let-in, raise, restrict}
+use Rattle.calculus.specs.Syntax.{Ty, function, guarded, computation, Term, abstraction, application, fix, guard, check, unit, let-in, raise, restrict}
 use Rattle.calculus.specs.Substitution.{substitute}
 use Rattle.calculus.specs.Subtyping.{System, sufficient, Subtype, base-below, function-below, guarded-below, computation-below}
 use Rattle.calculus.specs.Typing.{Has, has-constant, has-variable, has-abstraction, has-application, has-fix, has-guard, has-check, has-unit, has-let, has-raise, has-restrict, subsumption}

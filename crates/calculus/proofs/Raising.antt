@@ -1,10 +1,5 @@
 -- Raising by a role leaves exactly the remainder to need. Assumes nothing.
-use mathlib.Core.Path.{_≡_, refl}
-use mathlib.Core.Bool.{true}
 use mathlib.Core.List.{[]}
-use Prim.Native.Nat.{ℕ}
-use Rattle.std.specs.declared.option.Option.the-variants.{Some}
-use Rattle.roles.specs.Meaning.{Meaning, Lawful}
 use Rattle.calculus.specs.Inference.{infer}
 use Rattle.calculus.specs.Theorems.{Raising-needs-remainder}
 use Rattle.calculus.proofs.Laws.{remainder-there, exactly}

@@ -1,14 +1,14 @@
 -- What no run comes to. Assumes nothing.
 use mathlib.Core.Path.{_≡_, sym, _∙_}
-use mathlib.Core.Bool.{true, false, true≢false}
+use mathlib.Core.Bool.{true, true≢false}
 use mathlib.Core.List.{[]}
-use mathlib.Core.Logic.{_⊎_, inl, inr}
+use mathlib.Core.Logic.{inl, inr}
 use Prim.Native.Nat.{ℕ}
 use Rattle.roles.specs.Meaning.{Meaning, Lawful}
 use Rattle.calculus.specs.Syntax.{Ty, computation, Term}
 use Rattle.calculus.specs.Subtyping.{sufficient, necessary}
 use Rattle.calculus.specs.Typing.{Has}
-use Rattle.calculus.specs.Steps.{Value, Shape-fault, Reaches, here, onward}
+use Rattle.calculus.specs.Steps.{Shape-fault, Reaches, here, onward}
 use Rattle.calculus.specs.Theorems.{Steps-keep-type, Sufficient-safety, Necessary-safety}
 use Rattle.calculus.proofs.Progress.{Goes, typed-goes, sufficient-faultless}
 use Rattle.calculus.proofs.Keeping.{sufficient-kept, value-needs-nothing, necessary-kept}

@@ -1,16 +1,14 @@
 -- What inference finds is a type by the rules. Assumes nothing.
-use mathlib.Core.Path.{_≡_, refl, subst}
-use mathlib.Core.Bool.{Bool, true, _&&_}
-use mathlib.Core.List.{List, [], _∷_}
-use Prim.Native.Nat.{ℕ}
-use Rattle.std.specs.declared.option.Option.{Option}
-use Rattle.std.specs.declared.option.Option.the-variants.{Some, None}
+use mathlib.Core.Path.{_≡_, subst}
+use mathlib.Core.Bool.{_&&_}
+use mathlib.Core.List.{List, _∷_}
+use Rattle.std.specs.declared.option.Option.the-variants.{Some}
 use Rattle.std.proofs.shelf.Tests.{and-parts}
 use Rattle.roles.specs.Meaning.{Meaning, Lawful}
-use Rattle.calculus.specs.Syntax.{Ty, base, function, guarded, computation, Term, constant, variable, abstraction, application, fix, guard, check, unit, let-in, raise, restrict}
+use Rattle.calculus.specs.Syntax.{Ty, function, Term, constant, variable, abstraction, application, fix, guard, check, unit, let-in, raise, restrict}
 use Rattle.calculus.specs.Subtyping.{System, Subtype, function-below, well-coded}
 use Rattle.calculus.specs.Typing.{claim, permits, Has, has-constant, has-variable, has-abstraction, has-application, has-fix, has-guard, has-check, has-unit, has-let, has-raise, has-restrict, subsumption}
-use Rattle.calculus.specs.Inference.{is-subtype, given, on-some, on-computation, infer}
+use Rattle.calculus.specs.Inference.{is-subtype, infer}
 use Rattle.calculus.specs.Theorems.{Inference-sound}
 use Rattle.calculus.proofs.Options.{some-same, given-parts, some-parts, function-parts, guarded-parts, computation-parts}
 use Rattle.calculus.proofs.Order.{below-coded, below-same}

@@ -1,13 +1,12 @@
 -- The subtype test passes exactly where the rules of subtyping do. Assumes nothing.
-use mathlib.Core.Path.{_≡_, refl, sym, ap, subst}
-use mathlib.Core.Bool.{Bool, true, false, not, _&&_, false≢true}
-use mathlib.Core.Logic.{_↔_}
+use mathlib.Core.Path.{_≡_, refl, subst}
+use mathlib.Core.Bool.{Bool, true, false, not, false≢true}
 use Prim.Native.Nat.{ℕ}
 use lib.Dec.{eqb}
 use Rattle.std.proofs.shelf.Tests.{and-parts, and-from}
 use Rattle.roles.specs.Meaning.{Meaning}
 use Rattle.calculus.specs.Syntax.{Kind, unit-kind, number-kind, text-kind, kind-number, Ty, base, function, guarded, computation}
-use Rattle.calculus.specs.Subtyping.{System, role-test, Subtype, base-below, function-below, guarded-below, computation-below}
+use Rattle.calculus.specs.Subtyping.{System, Subtype, base-below, function-below, guarded-below, computation-below}
 use Rattle.calculus.specs.Inference.{role-test-way, related, is-subtype}
 use Rattle.calculus.specs.Theorems.{Subtyping-decided}
 

@@ -1,6 +1,6 @@
 -- The subtype test and the least type of a term, as functions on trees. Assumes nothing.
 use mathlib.Core.Bool.{Bool, true, false, not, _&&_}
-use mathlib.Core.List.{List, [], _∷_}
+use mathlib.Core.List.{List, _∷_}
 use Prim.Native.Nat.{ℕ}
 use lib.Dec.{eqb}
 use Rattle.std.specs.declared.option.Option.{Option}
@@ -48,7 +48,7 @@ abbrev pub on-some : {A : Type 0} → Option A → (A → Option Ty) → Option 
 on-some None f = None
 on-some (Some a) f = f a
 
--- What follows from a function type, from a guarded type, from a computation type; nothing from another.
+-- What follows from a function type that was found, by its argument and its result; nothing from another type.
 abbrev pub on-function : Option Ty → (Ty → Ty → Option Ty) → Option Ty
 on-function None f = None
 on-function (Some (base k)) f = None
@@ -56,6 +56,7 @@ on-function (Some (function t s)) f = f t s
 on-function (Some (guarded a t)) f = None
 on-function (Some (computation a t)) f = None
 
+-- What follows from a guarded type that was found, by its role and its inner type.
 abbrev pub on-guarded : Option Ty → (ℕ → Ty → Option Ty) → Option Ty
 on-guarded None f = None
 on-guarded (Some (base k)) f = None
@@ -63,6 +64,7 @@ on-guarded (Some (function t s)) f = None
 on-guarded (Some (guarded a t)) f = f a t
 on-guarded (Some (computation a t)) f = None
 
+-- What follows from a computation type that was found, by its role and its inner type.
 abbrev pub on-computation : Option Ty → (ℕ → Ty → Option Ty) → Option Ty
 on-computation None f = None
 on-computation (Some (base k)) f = None
@@ -74,12 +76,17 @@ on-computation (Some (computation a t)) f = f a t
 unfoldable pub infer : Meaning → System → List Ty → Term → Option Ty
 infer m α Γ (constant k p) = Some (base k)
 infer m α Γ (variable i) = lookup Γ i
-infer m α Γ (abstraction t u e) = given (well-coded m (claim α t u)) (on-some (infer m α (claim α t u ∷ Γ) e) (λ s. Some (function (claim α t u) s)))
-infer m α Γ (application f x) = on-function (infer m α Γ f) (λ t s. on-some (infer m α Γ x) (λ r. given (is-subtype m α r t) (Some s)))
+infer m α Γ (abstraction t u e) =
+    given (well-coded m (claim α t u)) (on-some (infer m α (claim α t u ∷ Γ) e) (λ s. Some (function (claim α t u) s)))
+infer m α Γ (application f x) =
+    on-function (infer m α Γ f) (λ t s. on-some (infer m α Γ x) (λ r. given (is-subtype m α r t) (Some s)))
 infer m α Γ (fix f) = on-function (infer m α Γ f) (λ t s. given (is-subtype m α s t) (Some s))
 infer m α Γ (guard a e) = given (m .role a) (on-some (infer m α Γ e) (λ t. Some (guarded a t)))
 infer m α Γ (check e) = on-guarded (infer m α Γ e) (λ a t. Some (computation a t))
 infer m α Γ (unit e) = on-some (infer m α Γ e) (λ t. Some (computation (m .bottom) t))
-infer m α Γ (let-in e u) = on-computation (infer m α Γ e) (λ a t. on-computation (infer m α (t ∷ Γ) u) (λ b s. on-some (m .join a b) (λ c. Some (computation c s))))
-infer m α Γ (raise a e) = on-computation (infer m α Γ e) (λ b t. on-some (m .remainder b a) (λ c. Some (computation c t)))
-infer m α Γ (restrict a e) = on-computation (infer m α Γ e) (λ b t. given (m .role a && permits m α a b) (Some (computation b t)))
+infer m α Γ (let-in e u) =
+    on-computation (infer m α Γ e) (λ a t. on-computation (infer m α (t ∷ Γ) u) (λ b s. on-some (m .join a b) (λ c. Some (computation c s))))
+infer m α Γ (raise a e) =
+    on-computation (infer m α Γ e) (λ b t. on-some (m .remainder b a) (λ c. Some (computation c t)))
+infer m α Γ (restrict a e) =
+    on-computation (infer m α Γ e) (λ b t. given (m .role a && permits m α a b) (Some (computation b t)))

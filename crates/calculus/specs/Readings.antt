@@ -1,6 +1,6 @@
 -- Worked readings: the bounds and the steps of small terms under two schemes. Assumes nothing.
 use mathlib.Core.Path.{_≡_}
-use mathlib.Core.Bool.{Bool, true, false, cond}
+use mathlib.Core.Bool.{true, cond}
 use mathlib.Core.List.{[]}
 use Prim.Native.Nat.{ℕ, _-_, max, min}
 use lib.Dec.{leb, ltb, eqb}
@@ -40,17 +40,19 @@ ladder-with remainder = record {
   remainder = remainder;
 }
 
--- The ladder of top 3: nothing remains of a rank by one at least as high, and all of it by a lower one.
+-- With its own remainder: nothing is left of a rank by one at least as high, and all of it by a lower one.
 abbrev pub ladder-frame : Frame
 ladder-frame = ladder-with (λ b a. cond (leb b a) 0 b)
 
+-- The ladder of top 3.
 abbrev pub ladder-3 : Meaning
 ladder-3 = meaning-of ladder-frame
 
--- The type Unit, and its value.
+-- Unit
 abbrev pub unit-type : Ty
 unit-type = base unit-kind
 
+-- unit
 abbrev pub unit-constant : Term
 unit-constant = constant unit-kind 0
 

@@ -27,17 +27,19 @@ Suffices m r (computation b t) = m .dom r b ≡ true
 
 -- 1. Subtyping and inference.
 
--- Subtyping is a partial order on the types whose codes are roles: reflexive there, transitive and antisymmetric.
+-- Every type whose codes are roles is below itself.
 abbrev pub Subtyping-reflexive : Type 0
 Subtyping-reflexive = (m : Meaning) → Lawful m → (α : System) (t : Ty) → well-coded m t ≡ true → Subtype m α t t
 
+-- What is below a type is below all that the type is below.
 abbrev pub Subtyping-transitive : Type 0
 Subtyping-transitive = (m : Meaning) → Lawful m → (α : System) (t s u : Ty) → Subtype m α t s → Subtype m α s u → Subtype m α t u
 
+-- Types that are below each other are the same.
 abbrev pub Subtyping-antisymmetric : Type 0
 Subtyping-antisymmetric = (m : Meaning) → Lawful m → (α : System) (t s : Ty) → Subtype m α t s → Subtype m α s t → t ≡ s
 
--- The subtype test decides it.
+-- The subtype test passes exactly where the rules do.
 abbrev pub Subtyping-decided : Type 0
 Subtyping-decided = (m : Meaning) (α : System) (t s : Ty) → (is-subtype m α t s ≡ true) ↔ Subtype m α t s
 
@@ -57,19 +59,22 @@ Inference-least =
     (m : Meaning) → Lawful m → m .sound ≡ true → (α : System) (Γ : List Ty) → Coded-environment m Γ → (e : Term) (t : Ty) → infer m α Γ e ≡ Some t →
     Has m α Γ e t × ((s : Ty) → Has m α Γ e s → Subtype m α t s)
 
--- 2. Under a role that dominates the sufficient bound, steps keep the type and lead to no fault.
+-- 2. The sufficient bound.
 
 -- In a system, steps under a role keep the type. This holds in the sufficient one; in the necessary one a step may lower the bound.
 abbrev pub Steps-keep-type : System → Type 0
 Steps-keep-type α =
     (m : Meaning) → Lawful m → (r : ℕ) (e e′ : Term) (t : Ty) → Has m α [] e t → m .role r ≡ true → Reaches m r e e′ → Has m α [] e′ t
 
+-- Under a role that dominates the sufficient bound, steps lead to no role fault and to no shape fault.
 abbrev pub Sufficient-safety : Type 0
 Sufficient-safety =
     (m : Meaning) → Lawful m → (r : ℕ) (e e′ : Term) (t : Ty) → Has m sufficient [] e t → m .role r ≡ true → Suffices m r t → Reaches m r e e′ →
     (Role-fault m r e′ → ⊥) × (Shape-fault m r e′ → ⊥)
 
--- 3. Under a role that does not dominate the necessary bound, steps lead to no value and to no shape fault.
+-- 3. The necessary bound.
+
+-- Under a role that does not dominate the necessary bound, steps lead to no value and to no shape fault.
 abbrev pub Necessary-safety : Type 0
 Necessary-safety =
     (m : Meaning) → Lawful m → (r : ℕ) (e e′ : Term) (b : ℕ) (t : Ty) → Has m necessary [] e (computation b t) → m .role r ≡ true → m .dom r b ≡ false →
@@ -101,13 +106,17 @@ Steps-counted =
     (m : Meaning) (r : ℕ) (e e′ : Term) →
     (Reaches m r e e′ ↔ ((n : ℕ) × Steps m r n e e′)) × ((n : ℕ) (e″ : Term) → Steps m r n e e′ → Steps m r n e e″ → e′ ≡ e″)
 
--- 5. A role that dominates another makes every step that the other makes, to the same term, and so any number of steps.
+-- 5. Greater roles.
+
+-- A role that dominates another makes every step that the other makes, to the same term, and so any number of steps.
 abbrev pub Dominating-role-steps : Type 0
 Dominating-role-steps =
     (m : Meaning) → Lawful m → (r q : ℕ) (e e′ : Term) → m .dom q r ≡ true →
     (Step m r e e′ → Step m q e e′) × ((n : ℕ) → Steps m r n e e′ → Steps m q n e e′)
 
--- 6. Raising by a over a computation at b needs exactly the remainder: a role x suffices for it exactly when the join of a and x dominates b.
+-- 6. Raising.
+
+-- Raising by a over a computation at b needs exactly the remainder: a role x suffices for it exactly when the join of a and x dominates b.
 abbrev pub Raising-needs-remainder : Type 0
 Raising-needs-remainder =
     (m : Meaning) → Lawful m → (α : System) (e : Term) (a b : ℕ) (t : Ty) → infer m α [] e ≡ Some (computation b t) → m .role a ≡ true →
