@@ -13,5 +13,3 @@ pub mod Progress
 pub mod Keeping
 pub mod Safety
 pub mod Raising
-pub mod Ladder
-pub mod Examples

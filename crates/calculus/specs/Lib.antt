@@ -6,5 +6,3 @@ pub mod Inference
 pub mod Steps
 pub mod Next
 pub mod Theorems
-pub mod Readings
-pub mod Errors

@@ -1,9 +1,7 @@
 //! The calculus of role guards: its types, its terms, two type systems, its steps, and the theorems about them.
 //! The definitions are in specs/, and docs/calculus.md reads them aloud. Each function stands for one theorem, which specs/ states for every lawful scheme.
 ghost use Rattle.calculus.specs.Theorems.{Subtyping-reflexive, Subtyping-transitive, Subtyping-antisymmetric, Subtyping-decided, Inference-sound, Inference-decides, Inference-least, Steps-keep-type, Sufficient-safety, Necessary-safety, Outcome-unique, Next-decides, Steps-keep-closed, Typed-closed, Steps-counted, Dominating-role-steps, Raising-needs-remainder};
-ghost use Rattle.calculus.specs.Subtyping.{sufficient, necessary};
-ghost use Rattle.calculus.specs.Readings.{Readings};
-ghost use Rattle.calculus.specs.Errors.{Tempting-errors-fail};
+ghost use Rattle.calculus.specs.Subtyping.{System, sufficient};
 
 /// Every type whose codes are roles is below itself.
 pub fn subtyping_reflexive()
@@ -43,11 +41,6 @@ pub fn inference_least()
 /// Steps under a role keep the sufficient type.
 pub fn steps_keep_type()
     ensures { λ _. ⌜ Steps-keep-type sufficient ⌝ }
-{}
-
-/// They do not keep the necessary type: a step may lower the bound.
-pub fn necessary_type_falls()
-    ensures { λ _. ⌜ (Steps-keep-type necessary → ⊥) ⌝ }
 {}
 
 /// Under a role that dominates the sufficient bound no term reached is a role fault or a shape fault.
@@ -93,14 +86,4 @@ pub fn dominating_role_steps()
 /// A role suffices for a raised computation exactly when its join with the raise's role dominates the bound inside.
 pub fn raising_needs_remainder()
     ensures { λ _. ⌜ Raising-needs-remainder ⌝ }
-{}
-
-/// The worked readings, by computation.
-pub fn readings_hold()
-    ensures { λ _. ⌜ Readings ⌝ }
-{}
-
-/// The remainder by a complement, arguments compared forward, a let that hands over the unit: each is shown to be an error by a term.
-pub fn tempting_errors_fail()
-    ensures { λ _. ⌜ Tempting-errors-fail ⌝ }
 {}

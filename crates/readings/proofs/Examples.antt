@@ -7,21 +7,21 @@ use native.Mathlib.Omega.{arith}
 use lib.Bits.{bitAnd, and-le-l}
 use Rattle.std.specs.declared.option.Option.the-variants.{Some}
 use Rattle.std.proofs.shelf.Tests.{lt-ltb, ne-eqb}
 use Rattle.calculus.specs.Syntax.{computation, application, fix, unit, restrict}
 use Rattle.calculus.specs.Substitution.{substitute}
 use Rattle.calculus.specs.Subtyping.{System, sufficient, necessary}
 use Rattle.calculus.specs.Typing.{has-constant, has-variable, has-abstraction, has-application, has-guard, has-check, has-unit, has-let, has-raise}
 use Rattle.calculus.specs.Inference.{infer}
 use Rattle.calculus.specs.Steps.{apply, unroll, pass, hand-over, Role-fault, refused, fault-in-raise, fault-in-restrict, Shape-fault, here, onward, no-step, one-more}
 use Rattle.calculus.specs.Next.{shape-fault, next}
 use Rattle.calculus.specs.Theorems.{Steps-keep-type}
-use Rattle.calculus.specs.Readings.{mask-8, ladder-3, unit-type, unit-constant, checked, unit-identity, Readings}
-use Rattle.calculus.specs.Errors.{Complement-fails, base-forward, function-forward, guarded-forward, computation-forward, opener, locked, Forward-fails, wrapper, wrapped, Handing-unit-fails, Tempting-errors-fail}
+use Rattle.readings.specs.Bounds.{mask-8, ladder-3, unit-type, unit-constant, checked, unit-identity, Readings}
+use Rattle.readings.specs.Errors.{Complement-fails, base-forward, function-forward, guarded-forward, computation-forward, opener, locked, Forward-fails, wrapper, wrapped, Handing-unit-fails, Tempting-errors-fail}
 use Rattle.calculus.proofs.Options.{none-some}
 use Rattle.calculus.proofs.Complete.{inference-decides}
 use Rattle.calculus.proofs.Inversion.{unit-at}
 use Rattle.calculus.proofs.Outcomes.{next-decides}
-use Rattle.calculus.proofs.Ladder.{ladder-lawful}
+use Rattle.ladders.proofs.Laws.{ladder-lawful}
 
 -- what is left of a context role within 2 lacks the guard's role 6
 kept-within-two : (k : ℕ) → k ≤ 2 → mask-8 .dom k 6 ≡ false
@@ -56,7 +56,6 @@ readings =
       claims-exchanged = refl;
       ladder-low-raise = λ α. refl;
       ladder-high-raise = λ α. refl;
-      ladder-lawful = ladder-lawful;
       check-bound = λ α. refl;
       check-passes = pass refl;
       check-refuses = refused refl;
@@ -86,7 +85,7 @@ forward-fails =
       suffices = refl;
       steps = apply;
       faults = refused refl;
-      untyped = λ t h. let i = inference-decides ladder-3 ladder-lawful refl sufficient [] (λ i s e. absurd (none-some e)) (application opener locked) .0 (t, h) in none-some (i .1);
+      untyped = λ t h. let i = inference-decides ladder-3 (ladder-lawful 3) refl sufficient [] (λ i s e. absurd (none-some e)) (application opener locked) .0 (t, h) in none-some (i .1);
     }
 
 handing-unit-fails : Handing-unit-fails
@@ -105,5 +104,5 @@ tempting-errors-fail = record { complement = complement-fails; forward = forward
 -- under role 3 a check of {3}[unit] steps to a unit, of which the bound 3 is no longer necessary
 pub necessary-type-falls : Steps-keep-type necessary → ⊥
 necessary-type-falls keeps =
-    let h = keeps ladder-3 ladder-lawful 3 (checked 3) (unit unit-constant) (computation 3 unit-type) (has-check (has-guard refl has-constant)) refl (onward (pass refl) here) in
-    false≢true (unit-at ladder-lawful refl h .0)
+    let h = keeps ladder-3 (ladder-lawful 3) 3 (checked 3) (unit unit-constant) (computation 3 unit-type) (has-check (has-guard refl has-constant)) refl (onward (pass refl) here) in
+    false≢true (unit-at (ladder-lawful 3) refl h .0)

@@ -1,52 +1,24 @@
 -- Worked readings: the bounds and the steps of small terms under two schemes. Assumes nothing.
 use mathlib.Core.Path.{_≡_}
-use mathlib.Core.Bool.{true, cond}
+use mathlib.Core.Bool.{true}
 use mathlib.Core.List.{[]}
-use Prim.Native.Nat.{ℕ, _-_, max, min}
-use lib.Dec.{leb, ltb, eqb}
-use lib.Bits.{bitAnd, bitOr}
+use Prim.Native.Nat.{ℕ}
 use Rattle.std.specs.declared.option.Option.the-variants.{Some, None}
-use Rattle.roles.specs.Meaning.{Meaning, Lawful}
-use Rattle.roles.specs.Frame.{Frame, guarded as meaning-of}
+use Rattle.roles.specs.Meaning.{Meaning}
+use Rattle.masks.specs.Kind.{mask}
+use Rattle.ladders.specs.Kind.{ladder}
 use Rattle.calculus.specs.Syntax.{unit-kind, Ty, base, computation, Term, constant, variable, abstraction, application, fix, guard, check, unit, let-in, raise, restrict}
 use Rattle.calculus.specs.Subtyping.{System, sufficient, necessary}
 use Rattle.calculus.specs.Inference.{infer}
 use Rattle.calculus.specs.Steps.{Step, Role-fault, Shape-fault, Steps}
 
--- The mask of width 8: the roles are the codes below 256, by their bits.
+-- The mask of width 8.
 abbrev pub mask-8 : Meaning
-mask-8 =
-    meaning-of (record {
-      sound = true;
-      width = 8;
-      bottom = 0;
-      role = λ c. ltb c 256;
-      above = λ a b. eqb (bitAnd a b) b;
-      join = bitOr;
-      meet = bitAnd;
-      remainder = λ b a. bitAnd b (255 - a);
-    })
+mask-8 = mask 8
 
--- The ladder of top 3 with its remainder left open: the roles are the ranks 0 to 3.
-abbrev pub ladder-with : (ℕ → ℕ → ℕ) → Frame
-ladder-with remainder = record {
-  sound = true;
-  width = 8;
-  bottom = 0;
-  role = λ c. leb c 3;
-  above = λ a b. leb b a;
-  join = max;
-  meet = min;
-  remainder = remainder;
-}
-
--- With its own remainder: nothing is left of a rank by one at least as high, and all of it by a lower one.
-abbrev pub ladder-frame : Frame
-ladder-frame = ladder-with (λ b a. cond (leb b a) 0 b)
-
--- The ladder of top 3.
+-- The ladder of top rank 3.
 abbrev pub ladder-3 : Meaning
-ladder-3 = meaning-of ladder-frame
+ladder-3 = ladder 3
 
 -- Unit
 abbrev pub unit-type : Ty
@@ -85,8 +57,6 @@ pub record Readings : Type 0 where
   -- on the ladder raise 1. check {3}[unit] has the bound 3, and raise 3. check {2}[unit] the bound 0
   pub ladder-low-raise : (α : System) → infer ladder-3 α [] (raise 1 (checked 3)) ≡ Some (computation 3 unit-type)
   pub ladder-high-raise : (α : System) → infer ladder-3 α [] (raise 3 (checked 2)) ≡ Some (computation 0 unit-type)
-  -- the ladder is lawful, so that the theorems say something
-  pub ladder-lawful : Lawful ladder-3
   -- check {4}[unit] has the bound 4; role 4 passes the guard, and role 3 meets a role fault
   pub check-bound : (α : System) → infer mask-8 α [] (checked 4) ≡ Some (computation 4 unit-type)
   pub check-passes : Step mask-8 4 (checked 4) (unit unit-constant)

@@ -5,16 +5,19 @@ use mathlib.Core.List.{[]}
 use Prim.Native.Nat.{ℕ, _-_, min}
 use Rattle.roles.specs.Meaning.{Meaning, Lawful}
 use Rattle.roles.specs.Frame.{guarded as meaning-of}
+use Rattle.ladders.specs.Kind.{ladder-frame}
 use Rattle.calculus.specs.Syntax.{Kind, Ty, base, function, guarded, computation, Term, variable, abstraction, application, guard, check, unit, let-in, raise}
 use Rattle.calculus.specs.Substitution.{substitute}
 use Rattle.calculus.specs.Subtyping.{System, sufficient, role-test}
 use Rattle.calculus.specs.Typing.{Has}
 use Rattle.calculus.specs.Steps.{Step, Role-fault, Can-step, Shape-fault}
-use Rattle.calculus.specs.Readings.{ladder-with, ladder-3, unit-type, unit-constant, checked}
+use Rattle.readings.specs.Bounds.{ladder-3, unit-type, unit-constant, checked}
 
 -- The ladder with what b has outside a read as the meet of b with the complement of a.
 abbrev pub ladder-by-complement : Meaning
-ladder-by-complement = meaning-of (ladder-with (λ b a. min b (3 - a)))
+ladder-by-complement =
+    let f = ladder-frame 3 in
+    meaning-of (record { sound = f .sound; width = f .width; bottom = f .bottom; role = f .role; above = f .above; join = f .join; meet = f .meet; remainder = λ b a. min b (3 - a) })
 
 -- First: with that remainder raise 1. check {3}[unit] is typed at 2, and under role 2 it is a role fault. So it breaks the laws.
 pub record Complement-fails : Type 0 where
