@@ -46,5 +46,4 @@ pub trait Scheme {
 /// The role set and the order decide every other answer but the width, so what is proved from a meaning is proved from these two.
 pub fn order_decides()
     ensures { λ _. ⌜ Order-decides ⌝ }
-{
-}
+{}

@@ -3,26 +3,38 @@ ghost use mathlib.Core.Path.{_≡_};
 ghost use Rattle.tables.specs.Asking.{asks};
 ghost use Rattle.tables.specs.Entries.{names, one-operand, role-fits, role-tag, term-operands, term-tag, type-operands, type-tag, value-operands};
 ghost use Rattle.tables.specs.Form.{term-asked, type-asked};
-
 use crate::entry::Entry;
 use crate::fault::FormFault;
 use roles::scheme::Scheme;
 
 pub const BASE: u8 = 1;
+
 pub const FUNCTION: u8 = 2;
+
 pub const GUARDED: u8 = 3;
+
 pub const COMPUTATION: u8 = 4;
 
 pub const VALUE: u8 = 16;
+
 pub const VARIABLE: u8 = 17;
+
 pub const ABSTRACTION: u8 = 18;
+
 pub const APPLICATION: u8 = 19;
+
 pub const FIX: u8 = 20;
+
 pub const GUARD: u8 = 21;
+
 pub const CHECK: u8 = 22;
+
 pub const UNIT: u8 = 23;
+
 pub const LET: u8 = 24;
+
 pub const RAISE: u8 = 25;
+
 pub const RESTRICT: u8 = 26;
 
 /// One question: a no tells the fault.
@@ -113,16 +125,40 @@ fn role_is<S: Scheme>(scheme: &S, e: Entry) -> bool
 pub(crate) fn ask_type<S: Scheme>(scheme: &S, e: Entry, i: u32) -> Result<(), FormFault>
     ensures { λ r. ⌜ r ≡ type-asked (meaning (now (scheme .entry)) .role) e i ⌝ }
 {
-    ask(is_type(e.tag), FormFault::Tag { place: i, tag: e.tag })?;
+    ask(
+        is_type(e.tag),
+        FormFault::Tag {
+            place: i,
+            tag: e.tag,
+        },
+    )?;
     ask(type_fits(e, i), FormFault::Operands { place: i })?;
-    ask(role_is(scheme, e), FormFault::Role { place: i, code: e.third })
+    ask(
+        role_is(scheme, e),
+        FormFault::Role {
+            place: i,
+            code: e.third,
+        },
+    )
 }
 
 /// The questions of tag, operands and role to term `i`, which stands at `place`, in a job of `t` types.
-pub(crate) fn ask_term<S: Scheme>(scheme: &S, e: Entry, i: u32, t: u32, place: u32) -> Result<(), FormFault>
+pub(crate) fn ask_term<S: Scheme>(
+    scheme: &S,
+    e: Entry,
+    i: u32,
+    t: u32,
+    place: u32,
+) -> Result<(), FormFault>
     ensures { λ r. ⌜ r ≡ term-asked (meaning (now (scheme .entry)) .role) e i t place ⌝ }
 {
     ask(is_term(e.tag), FormFault::Tag { place, tag: e.tag })?;
     ask(term_fits(e, i, t), FormFault::Operands { place })?;
-    ask(role_is(scheme, e), FormFault::Role { place, code: e.third })
+    ask(
+        role_is(scheme, e),
+        FormFault::Role {
+            place,
+            code: e.third,
+        },
+    )
 }
