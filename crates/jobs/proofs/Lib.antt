@@ -1,0 +1,4 @@
+pub mod Fills
+pub mod Asked
+pub mod Outlines
+pub mod ReadSteps
