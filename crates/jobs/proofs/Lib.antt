@@ -2,3 +2,4 @@ pub mod Fills
 pub mod Asked
 pub mod Outlines
 pub mod ReadSteps
+pub mod Puts

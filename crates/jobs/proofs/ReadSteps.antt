@@ -19,7 +19,6 @@ use Rattle.jobs.proofs.Asked.{told-yes, told-value, told-no, formed-no, formed
 use Rattle.jobs.proofs.Outlines.{outlined, roomy, Roomy}
 
 module _ (m : Meaning) (bs : List ℕ) (a b : ℕ) where
-
   -- the entries that counts say
   abbrev rest : Counts → Answer
   rest k = formed (entries-asked (m .role) (types-in bs (k .types) (k .terms)) (terms-in bs (k .types) (k .terms)))

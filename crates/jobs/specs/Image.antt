@@ -56,3 +56,29 @@ types-in bs t n = entries (drop 4 bs) (operands-in bs t n) t
 -- Its terms.
 abbrev pub terms-in : List ℕ → ℕ → ℕ → List Entry
 terms-in bs t n = entries (drop (4 + t) bs) (drop (16 * t) (operands-in bs t n)) n
+
+-- A number of 16 bits as bytes.
+abbrev pub bytes16 : ℕ → List ℕ
+bytes16 x = (x % 256) ∷ (x / 256 % 256) ∷ []
+
+-- A number of 32 bits as bytes.
+abbrev pub bytes32 : ℕ → List ℕ
+bytes32 x = (x % 256) ∷ (x / 256 % 256) ∷ (x / 65536 % 256) ∷ (x / 16777216 % 256) ∷ []
+
+-- A number of 64 bits as bytes.
+abbrev pub bytes64 : ℕ → List ℕ
+bytes64 x =
+    (x % 256) ∷ (x / 256 % 256) ∷ (x / 65536 % 256) ∷ (x / 16777216 % 256) ∷ (x / 4294967296 % 256) ∷ (x / 1099511627776 % 256) ∷ (x / 281474976710656 % 256) ∷ (x / 72057594037927936 % 256) ∷ []
+
+-- The 16 bytes of an entry's operands.
+abbrev pub operand-bytes : Entry → List ℕ
+operand-bytes e = bytes32 (e .first) ++ bytes32 (e .second) ++ bytes64 (e .third)
+
+-- The tags of a table.
+abbrev pub tags : List Entry → List ℕ
+tags es = map (λ e. e .tag) es
+
+-- The image of a job: the two counts, the tags, the operands.
+abbrev pub image : List Entry → List Entry → List ℕ
+image types terms =
+    bytes16 (length types) ++ bytes16 (length terms) ++ tags types ++ tags terms ++ joined operand-bytes types ++ joined operand-bytes terms

@@ -2,3 +2,4 @@ pub mod Faults
 pub mod Asking
 pub mod Image
 pub mod Reading
+pub mod Writing

@@ -4,7 +4,6 @@ ghost use mathlib.Core.Path.{_≡_};
 ghost use Prim.Native.Nat.{_+_, _*_, _<_, _≤_};
 ghost use lib.ListN.{length, drop};
 ghost use Rattle.jobs.specs.Image.{entries, entry-at, image-length, number16, number32, number64, terms-in, types-in};
-
 use tables::entry::Counts;
 use tables::entry::Entry;
 

@@ -2,7 +2,6 @@
 ghost use mathlib.Core.Path.{_≡_};
 ghost use Rattle.jobs.specs.Faults.{number-of, place-of};
 ghost use Rattle.jobs.specs.declared.fault.ImageFault.the-variants.{Form};
-
 use tables::fault::FormFault;
 use tables::fault::FormFaultDebug;
 use tables::fault::FormFaultPartialEq;

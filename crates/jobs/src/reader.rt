@@ -6,7 +6,6 @@ ghost use Rattle.jobs.specs.Asking.{asks, told};
 ghost use Rattle.jobs.specs.Image.{image-length, terms-in, terms-told, types-in, types-told};
 ghost use Rattle.jobs.specs.Reading.{Outlined, counts-told, outline-asked, read-told, short-asked, terms-left, types-left};
 ghost use Rattle.tables.specs.Form.{entries-asked};
-
 use crate::decode::decode;
 use crate::decode::number16;
 use crate::fault::ImageFault;
@@ -20,7 +19,12 @@ use tables::form::form;
 use tables::form::room;
 use tables::form::sound;
 
-const NO_ENTRY: Entry = Entry { tag: 0, first: 0, second: 0, third: 0 };
+const NO_ENTRY: Entry = Entry {
+    tag: 0,
+    first: 0,
+    second: 0,
+    third: 0,
+};
 
 /// One question: a no tells the fault.
 pub(crate) fn ask(yes: bool, fault: ImageFault) -> Result<(), ImageFault>
@@ -42,18 +46,29 @@ fn counts_told(image: &[u8]) -> Result<Counts, ImageFault>
 {
     let length = image.len();
     ask(length >= 4, ImageFault::Short { length })?;
-    Ok(Counts { types: number16(image, 0) as u32, terms: number16(image, 2) as u32 })
+    Ok(Counts {
+        types: number16(image, 0) as u32,
+        terms: number16(image, 2) as u32,
+    })
 }
 
 // The questions before any entry is looked at, for tables of so many places.
-fn outline<S: Scheme>(scheme: &S, image: &[u8], types: usize, terms: usize) -> Result<Counts, ImageFault>
+fn outline<S: Scheme>(
+    scheme: &S,
+    image: &[u8],
+    types: usize,
+    terms: usize,
+) -> Result<Counts, ImageFault>
     ensures { λ r. ⌜ r ≡ told (outline-asked (meaning (now (scheme .entry))) (now (image .entry)) (types-told (now (image .entry))) (terms-told (now (image .entry))) types terms) (counts-told (now (image .entry))) ⌝ }
 {
     sound(scheme)?;
     let counts = counts_told(image)?;
     few(counts)?;
     let length = image.len();
-    ask(length == image_length(counts), ImageFault::Length { length })?;
+    ask(
+        length == image_length(counts),
+        ImageFault::Length { length },
+    )?;
     room(counts, types, terms)?;
     Ok(counts)
 }
@@ -71,7 +86,12 @@ fn examine<S: Scheme>(scheme: &S, image: &[u8], counts: Counts) -> Result<(), Fo
 
 /// Reads an image into the first places of two tables and tells how many entries there are.
 /// A refused image leaves both tables as they were; its fault is the first question answered with no.
-pub fn read<S: Scheme>(scheme: &S, image: &[u8], types: &mut [Entry], terms: &mut [Entry]) -> Result<Counts, ImageFault>
+pub fn read<S: Scheme>(
+    scheme: &S,
+    image: &[u8],
+    types: &mut [Entry],
+    terms: &mut [Entry],
+) -> Result<Counts, ImageFault>
     ensures answer { λ r. ⌜ r ≡ read-told (meaning (now (scheme .entry))) (now (image .entry)) (length (now (types .entry))) (length (now (terms .entry))) ⌝ }
     ensures types { λ _. ⌜ now (types .exit) ≡ types-left (meaning (now (scheme .entry))) (now (image .entry)) (now (types .entry)) (now (terms .entry)) ⌝ }
     ensures terms { λ _. ⌜ now (terms .exit) ≡ terms-left (meaning (now (scheme .entry))) (now (image .entry)) (now (types .entry)) (now (terms .entry)) ⌝ }
