@@ -1,0 +1,17 @@
+pub mod Options
+pub mod Laws
+pub mod Order
+pub mod Test
+pub mod Sound
+pub mod Complete
+pub mod Inversion
+pub mod Closing
+pub mod Replacing
+pub mod Outcomes
+pub mod Growing
+pub mod Progress
+pub mod Keeping
+pub mod Safety
+pub mod Raising
+pub mod Ladder
+pub mod Examples
