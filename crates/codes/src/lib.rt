@@ -1,2 +1,3 @@
-//! 64-bit codes by their bits: what the kinds of scheme share.
+//! 64-bit codes by their bits and their bytes: what the kinds of scheme and the block share.
 pub mod bits;
+pub mod bytes;

@@ -61,6 +61,9 @@ impl Hierarchy {
     }
 }
 
+// The set of no roles.
+const EMPTY: u64 = 0;
+
 pub impl Scheme for Hierarchy as HierarchyScheme {
     ghost meaning = { λ s. hierarchy (s .count) (s .rows) };
 
@@ -113,6 +116,6 @@ pub impl Scheme for Hierarchy as HierarchyScheme {
     }
 
     fn bottom(&self) -> u64 {
-        0
+        EMPTY
     }
 }

@@ -3,10 +3,13 @@ ghost use Rattle.ladders.specs.Kind.{ladder};
 use roles::scheme::Scheme;
 
 /// The ranks 0 to `top`, sound from top 1 up.
-#[derive(Clone, Copy, PartialEq, Eq, Debug)]
+#[derive(Clone, Copy)]
 pub struct Ladder {
     pub top: u8,
 }
+
+// The lowest rank.
+const LOWEST: u64 = 0;
 
 pub impl Scheme for Ladder as LadderScheme {
     ghost meaning = { λ s. ladder (s .top) };
@@ -52,6 +55,6 @@ pub impl Scheme for Ladder as LadderScheme {
     }
 
     fn bottom(&self) -> u64 {
-        0
+        LOWEST
     }
 }

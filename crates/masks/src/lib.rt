@@ -6,10 +6,13 @@ use codes::bits::without;
 use roles::scheme::Scheme;
 
 /// The mask of a width, sound for widths 1 to 64.
-#[derive(Clone, Copy, PartialEq, Eq, Debug)]
+#[derive(Clone, Copy)]
 pub struct Mask {
     pub width: u32,
 }
+
+// The set of no bits.
+const EMPTY: u64 = 0;
 
 pub impl Scheme for Mask as MaskScheme {
     ghost meaning = { λ s. mask (s .width) };
@@ -55,6 +58,6 @@ pub impl Scheme for Mask as MaskScheme {
     }
 
     fn bottom(&self) -> u64 {
-        0
+        EMPTY
     }
 }

@@ -5,7 +5,7 @@ ghost use Rattle.pairs.specs.Kind.{high, low, packed, pair, pair-code};
 use roles::scheme::Scheme;
 
 /// Two schemes side by side, sound if both are and their widths add to at most 64.
-#[derive(Clone, Copy, PartialEq, Eq, Debug)]
+#[derive(Clone, Copy)]
 pub struct Pair<A, B> {
     pub first: A,
     pub second: B,
@@ -59,7 +59,7 @@ pub impl<A: Scheme, B: Scheme> Scheme for Pair<A, B> as PairScheme {
 
     fn width(&self) -> u32 {
         if self.sound() {
-            self.first.width() + self.second.width()
+            self.second.width() + self.first.width()
         } else {
             64
         }

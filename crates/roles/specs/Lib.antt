@@ -1,3 +1,4 @@
 pub mod Meaning
 pub mod Frame
 pub mod Theorems
+pub mod Refusal

@@ -43,6 +43,13 @@ pub trait Scheme {
         ensures { λ r. ⌜ r ≡ meaning (now (self .entry)) .bottom ⌝ };
 }
 
+/// Why a call refuses a scheme.
+#[derive(Clone, Copy, PartialEq, Eq, Debug)]
+pub enum SchemeFault {
+    /// The scheme is unsound, so it has no roles.
+    Unsound,
+}
+
 /// The role set and the order decide every other answer but the width, so what is proved from a meaning is proved from these two.
 pub fn order_decides()
     ensures { λ _. ⌜ Order-decides ⌝ }
