@@ -13,7 +13,7 @@ use Rattle.std.proofs.shelf.Lists.{take-at, length-append, length-drop, length-
 use Rattle.std.proofs.shelf.Tests.{and-parts, leb-true, le-leb, eqb-true, eq-eqb}
 use Rattle.tables.specs.declared.entry.Entry.{Entry}
 use Rattle.tables.specs.declared.entry.Counts.{Counts}
-use Rattle.tables.specs.declared.fault.FormFault.the-variants.{Unsound, Counts as Counted, Room}
+use Rattle.tables.specs.declared.fault.FormFault.the-variants.{Counts as Counted, Room}
 use Rattle.tables.specs.Asking as form
 use Rattle.tables.specs.Form.{sound-asked, counts-asked, room-asked, entries-asked, form}
 use Rattle.tables.proofs.Asked as facts

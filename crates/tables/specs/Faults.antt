@@ -1,11 +1,12 @@
 -- The number and the place of each fault of form. Assumes nothing.
 use Prim.Native.Nat.{ℕ}
+use Rattle.roles.specs.Refusal as scheme
 use Rattle.tables.specs.declared.fault.FormFault.{FormFault}
-use Rattle.tables.specs.declared.fault.FormFault.the-variants.{Unsound, Counts, Room, Tag, Operands, Role, Size, Named, Unbound}
+use Rattle.tables.specs.declared.fault.FormFault.the-variants.{Scheme, Counts, Room, Tag, Operands, Role, Size, Named, Unbound}
 
 -- The number of the question that was answered with no.
 abbrev pub number-of : FormFault → ℕ
-number-of Unsound = 2
+number-of (Scheme f) = scheme.number-of f
 number-of (Counts t n) = 4
 number-of (Room t n) = 6
 number-of (Tag p k) = 7
@@ -17,7 +18,7 @@ number-of (Unbound p) = 12
 
 -- The place of the entry that is meant, counted from 0 through types, then terms; 0 if no entry is meant.
 abbrev pub place-of : FormFault → ℕ
-place-of Unsound = 0
+place-of (Scheme f) = scheme.place-of f
 place-of (Counts t n) = 0
 place-of (Room t n) = 0
 place-of (Tag p k) = p

@@ -5,8 +5,9 @@ use mathlib.Core.List.{List}
 use lib.Dec.{eqb, leb}
 use lib.ListN.{length, getD, take}
 use Rattle.roles.specs.Meaning.{Meaning}
+use Rattle.roles.specs.declared.scheme.SchemeFault.the-variants.{Unsound}
 use Rattle.tables.specs.declared.entry.Entry.{Entry}
-use Rattle.tables.specs.declared.fault.FormFault.the-variants.{Unsound, Counts, Room, Tag, Operands, Role, Size, Named, Unbound}
+use Rattle.tables.specs.declared.fault.FormFault.the-variants.{Scheme, Counts, Room, Tag, Operands, Role, Size, Named, Unbound}
 use Rattle.tables.specs.Asking.{Answer, asks, and-then, of-each}
 use Rattle.tables.specs.Entries.{at, type-tag, type-operands, term-tag, term-operands, role-fits}
 use Rattle.tables.specs.Sizes.{size}
@@ -51,7 +52,7 @@ entries-asked role types terms =
 
 -- Is the scheme sound?
 abbrev pub sound-asked : Meaning → Answer
-sound-asked m = asks (m .sound) Unsound
+sound-asked m = asks (m .sound) (Scheme Unsound)
 
 -- Are there at most 512 types, and 1 to 1,024 terms?
 abbrev pub counts-asked : ℕ → ℕ → Answer

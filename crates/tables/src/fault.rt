@@ -1,12 +1,17 @@
 //! What a question of form answered with no tells.
 ghost use mathlib.Core.Path.{_≡_};
 ghost use Rattle.tables.specs.Faults.{number-of, place-of};
+ghost use Rattle.tables.specs.declared.fault.FormFault.the-variants.{Scheme};
+
+use roles::scheme::SchemeFault;
+use roles::scheme::SchemeFaultDebug;
+use roles::scheme::SchemeFaultPartialEq;
 
 /// The first question of form that was answered with no. A place counts from 0 through the types, then the terms.
 #[derive(Clone, Copy, PartialEq, Eq, Debug)]
 pub enum FormFault {
-    /// The scheme is not sound.
-    Unsound,
+    /// The scheme is refused.
+    Scheme(SchemeFault),
     /// More than 512 types, no term, or more than 1,024 terms.
     Counts { types: u32, terms: u32 },
     /// Too few places in a table, or more than 16,384.
@@ -31,7 +36,7 @@ impl FormFault {
         ensures { λ r. ⌜ r ≡ number-of (now (self .entry)) ⌝ }
     {
         match self {
-            FormFault::Unsound => 2,
+            FormFault::Scheme(fault) => fault.number(),
             FormFault::Counts { .. } => 4,
             FormFault::Room { .. } => 6,
             FormFault::Tag { .. } => 7,
@@ -48,7 +53,7 @@ impl FormFault {
         ensures { λ r. ⌜ r ≡ place-of (now (self .entry)) ⌝ }
     {
         match *self {
-            FormFault::Unsound => 0,
+            FormFault::Scheme(fault) => fault.place() as u32,
             FormFault::Counts { .. } => 0,
             FormFault::Room { .. } => 0,
             FormFault::Tag { place, .. } => place,
@@ -58,5 +63,13 @@ impl FormFault {
             FormFault::Named { place, .. } => place,
             FormFault::Unbound { place } => place,
         }
+    }
+}
+
+pub impl From<SchemeFault> for FormFault as FormFromScheme {
+    ghost converts = { λ e r. r ≡ Scheme e };
+
+    fn from(e: SchemeFault) -> FormFault {
+        FormFault::Scheme(e)
     }
 }

@@ -9,17 +9,20 @@ use crate::binding::ask_bound;
 use crate::entry::Counts;
 use crate::entry::Entry;
 use crate::fault::FormFault;
+use crate::fault::FormFromScheme;
 use crate::operand::ask;
 use crate::operand::ask_term;
 use crate::size::ask_types;
 use crate::usage::ask_uses;
+use roles::refusal::ask_sound;
 use roles::scheme::Scheme;
 
 /// Is the scheme sound?
 pub fn sound<S: Scheme>(scheme: &S) -> Result<(), FormFault>
     ensures { λ r. ⌜ r ≡ spec.sound-asked (meaning (now (scheme .entry))) ⌝ }
 {
-    ask(scheme.sound(), FormFault::Unsound)
+    ask_sound(scheme)?;
+    Ok(())
 }
 
 /// Are there at most 512 types, and 1 to 1,024 terms?
