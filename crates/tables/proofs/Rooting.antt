@@ -25,7 +25,7 @@ term-yes role e i t p h =
     let bc = and-second a (and-then b c) h in
     (asks-yes _ _ (and-first a (and-then b c) h), asks-yes _ _ (and-first b c bc), asks-yes _ _ (and-second b c bc))
 
-operands-lower : (e : Entry) (i t : ℕ) → term-operands e i t ≡ true → Lower e i
+pub operands-lower : (e : Entry) (i t : ℕ) → term-operands e i t ≡ true → Lower e i
 operands-lower e i t h = record { first = λ l. grind (arith, tells); second = λ l. grind (arith, tells) }
 
 pub rooted : (role : ℕ → Bool) (t : ℕ) (terms : List Entry) → of-each (ask-term role t terms) (length terms) 0 ≡ Ok tt → Rooted terms

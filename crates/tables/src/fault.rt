@@ -2,7 +2,6 @@
 ghost use mathlib.Core.Path.{_≡_};
 ghost use Rattle.tables.specs.Faults.{number-of, place-of};
 ghost use Rattle.tables.specs.declared.fault.FormFault.the-variants.{Scheme};
-
 use roles::scheme::SchemeFault;
 use roles::scheme::SchemeFaultDebug;
 use roles::scheme::SchemeFaultPartialEq;
