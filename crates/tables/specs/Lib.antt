@@ -1,0 +1,9 @@
+pub mod Faults
+pub mod Asking
+pub mod Ladder
+pub mod Entries
+pub mod Lower
+pub mod Sizes
+pub mod Uses
+pub mod Depths
+pub mod Form

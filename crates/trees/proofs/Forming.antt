@@ -1,0 +1,67 @@
+-- From a yes to all questions to what they ask.
+use Prim.Native.Nat.{ℕ, _+_, _-_, _<_}
+use mathlib.Core.Path.{_≡_, sym, ap, _∙_, subst}
+use mathlib.Core.Bool.{Bool, true}
+use mathlib.Core.List.{List}
+use native.Mathlib.Nat.{zero-add}
+use lib.Dec.{eqb, leb}
+use lib.ListN.{length, getD}
+use Rattle.std.specs.declared.result.Result.the-variants.{Ok}
+use Rattle.std.proofs.shelf.Tests.{leb-true, eqb-true}
+use Rattle.tables.specs.declared.entry.Entry.{Entry}
+use Rattle.tables.specs.declared.fault.FormFault.the-variants.{Size, Named, Unbound}
+use Rattle.tables.specs.Asking.{Answer, asks, and-then, of-each}
+use Rattle.tables.specs.Entries.{at}
+use Rattle.tables.specs.Sizes.{size}
+use Rattle.tables.specs.Uses.{uses}
+use Rattle.tables.specs.Depths.{depths, bound-at}
+use Rattle.tables.specs.Form.{type-asked, ask-type, ask-term, ask-use, ask-bound, entries-asked}
+use Rattle.tables.proofs.Asked.{and-first, and-second, asks-yes, each-yes}
+use Rattle.tables.proofs.Rooting.{type-yes, term-yes}
+use Rattle.trees.specs.Facts.{Accepted-formed}
+use Rattle.trees.specs.Formed.{Fit-type, Fit-term, Formed}
+
+-- each of the first k was asked
+each : (ask : ℕ → Answer) (k i : ℕ) → of-each ask k 0 ≡ Ok tt → i < k → ask i ≡ Ok tt
+each ask k i h l = ap ask (sym (zero-add i)) ∙ each-yes ask k 0 h i l
+
+module _ (role : ℕ → Bool) (types terms : List Entry) (h : entries-asked role types terms ≡ Ok tt) where
+  abbrev t : ℕ
+  t = length types
+
+  abbrev n : ℕ
+  n = length terms
+
+  after-types : and-then (of-each (ask-term role t terms) n 0) (and-then (of-each (ask-use t terms) (n - 1) 0) (of-each (ask-bound t terms) n 0)) ≡ Ok tt
+  after-types = and-second (of-each (ask-type role types) t 0) _ h
+
+  after-terms : and-then (of-each (ask-use t terms) (n - 1) 0) (of-each (ask-bound t terms) n 0) ≡ Ok tt
+  after-terms = and-second (of-each (ask-term role t terms) n 0) _ after-types
+
+  fit-type : (i : ℕ) → i < t → Fit-type role types i
+  fit-type i l =
+      let a = each (ask-type role types) t i (and-first (of-each (ask-type role types) t 0) _ h) l in
+      let e = type-yes role (at types i) i (and-first (type-asked role (at types i) i) _ a) in
+      record {
+        tag = e .0;
+        operands = e .1;
+        code = e .2;
+        small = leb-true (size types i) 4096 (asks-yes (leb (size types i) 4096) (Size i (size types i)) (and-second (type-asked role (at types i) i) _ a));
+      }
+
+  fit-term : (i : ℕ) → i < n → Fit-term role t terms i
+  fit-term i l =
+      let e = term-yes role (at terms i) i t (t + i) (each (ask-term role t terms) n i (and-first (of-each (ask-term role t terms) n 0) _ after-types) l) in
+      record { tag = e .0; operands = e .1; code = e .2 }
+
+  formed-here : Formed role types terms
+  formed-here =
+      record {
+        types-fit = fit-type;
+        terms-fit = fit-term;
+        named-once = λ i l. eqb-true (uses terms i) 1 (asks-yes (eqb (uses terms i) 1) (Named (t + i) (uses terms i)) (each (ask-use t terms) (n - 1) i (and-first (of-each (ask-use t terms) (n - 1) 0) _ after-terms) l));
+        bound = λ i l. asks-yes (bound-at (at terms i) (getD (depths terms) i 0)) (Unbound (t + i)) (each (ask-bound t terms) n i (and-second (of-each (ask-use t terms) (n - 1) 0) _ after-terms) l);
+      }
+
+pub accepted-formed : Accepted-formed
+accepted-formed role types terms h = formed-here role types terms h

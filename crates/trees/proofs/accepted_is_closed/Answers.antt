@@ -1,0 +1,5 @@
+use Rattle.trees.proofs.Closing.{closes}
+use Rattle.trees.proofs.accepted_is_closed.Needs as need
+
+pub returns : need.returns
+returns c = closes

@@ -1,0 +1,5 @@
+use Rattle.trees.proofs.Coding.{codes-are-roles}
+use Rattle.trees.proofs.accepted_is_coded.Needs as need
+
+pub returns : need.returns
+returns c = codes-are-roles

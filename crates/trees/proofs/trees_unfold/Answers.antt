@@ -1,0 +1,5 @@
+use Rattle.trees.proofs.Unfolding.{unfolds}
+use Rattle.trees.proofs.trees_unfold.Needs as need
+
+pub returns : need.returns
+returns c = unfolds

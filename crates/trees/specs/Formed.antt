@@ -1,0 +1,31 @@
+-- What it is for a job to have the form of one. Assumes nothing.
+use Prim.Native.Nat.{ℕ, _-_, _<_, _≤_}
+use mathlib.Core.Path.{_≡_}
+use mathlib.Core.Bool.{Bool, true}
+use mathlib.Core.List.{List}
+use lib.ListN.{length, getD}
+use Rattle.tables.specs.declared.entry.Entry.{Entry}
+use Rattle.tables.specs.Entries.{at, type-tag, type-operands, term-tag, term-operands, role-fits}
+use Rattle.tables.specs.Sizes.{size}
+use Rattle.tables.specs.Uses.{uses}
+use Rattle.tables.specs.Depths.{depths, bound-at}
+
+-- Type i has a tag of a type, operands as the tag asks, a role for a role code, and at most 4,096 parts.
+pub record Fit-type (role : ℕ → Bool) (types : List Entry) (i : ℕ) : Type 0 where
+  pub tag : type-tag (at types i .tag) ≡ true
+  pub operands : type-operands (at types i) i ≡ true
+  pub code : role-fits role (at types i) ≡ true
+  pub small : size types i ≤ 4096
+
+-- Term i has a tag of a term, operands as the tag asks in a job of t types, and a role for a role code.
+pub record Fit-term (role : ℕ → Bool) (t : ℕ) (terms : List Entry) (i : ℕ) : Type 0 where
+  pub tag : term-tag (at terms i .tag) ≡ true
+  pub operands : term-operands (at terms i) i t ≡ true
+  pub code : role-fits role (at terms i) ≡ true
+
+-- Every type and term fits, every term but the last is named once, and every variable is bound.
+pub record Formed (role : ℕ → Bool) (types terms : List Entry) : Type 0 where
+  pub types-fit : (i : ℕ) → i < length types → Fit-type role types i
+  pub terms-fit : (i : ℕ) → i < length terms → Fit-term role (length types) terms i
+  pub named-once : (i : ℕ) → i < length terms - 1 → uses terms i ≡ 1
+  pub bound : (i : ℕ) → i < length terms → bound-at (at terms i) (getD (depths terms) i 0) ≡ true

@@ -1,0 +1,28 @@
+//! What the entries of a job's tables stand for: the types and the terms of the calculus.
+//! The definitions are in specs/, and each function stands for one fact about them, which specs/ states for every scheme.
+ghost use Rattle.trees.specs.Facts.{Accepted-closed, Accepted-coded, Accepted-formed, Prefix-keeps-trees, Trees-unfold};
+
+/// The entries of an accepted job are as their tags ask, each term but the last is named once, and each variable is bound.
+pub fn accepted_is_formed()
+    ensures { λ _. ⌜ Accepted-formed ⌝ }
+{}
+
+/// Entries that are appended to a table leave the trees of those before them as they were.
+pub fn prefix_keeps_trees()
+    ensures { λ _. ⌜ Prefix-keeps-trees ⌝ }
+{}
+
+/// In an accepted job the tree of an entry is made of the trees of the entries that it names.
+pub fn trees_unfold()
+    ensures { λ _. ⌜ Trees-unfold ⌝ }
+{}
+
+/// The term that an accepted job stands for is closed.
+pub fn accepted_is_closed()
+    ensures { λ _. ⌜ Accepted-closed ⌝ }
+{}
+
+/// Every role code in the types and terms of an accepted job is a role.
+pub fn accepted_is_coded()
+    ensures { λ _. ⌜ Accepted-coded ⌝ }
+{}
