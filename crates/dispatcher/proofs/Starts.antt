@@ -5,14 +5,15 @@ use mathlib.Core.Logic.{_↔_}
 use Prim.Native.Nat.{ℕ}
 use native.Mathlib.Omega.{arith}
 use Rattle.roles.specs.Meaning.{Meaning, Lawful}
+use Rattle.roles.specs.declared.scheme.SchemeFault.the-variants.{Unsound}
 use Rattle.dispatcher.specs.declared.report.Codes.{Codes}
-use Rattle.dispatcher.specs.declared.report.Refusal.the-variants.{Unsound, BoundNoRole, DutyNoRole}
+use Rattle.dispatcher.specs.declared.report.Refusal.the-variants.{Scheme, BoundNoRole, DutyNoRole}
 use Rattle.dispatcher.specs.declared.report.Decision.{Decision}
 use Rattle.dispatcher.specs.declared.report.Decision.the-variants.{MayStart, MayNotStart, Refused}
 use Rattle.dispatcher.specs.Decide.{compared}
 
 -- the last test passed
-passed : (sound bound duty dominates : Bool) → cond (not sound) (Refused Unsound) (cond (not bound) (Refused BoundNoRole) (cond (not duty) (Refused DutyNoRole) (cond dominates MayStart MayNotStart))) ≡ MayStart → dominates ≡ true
+passed : (sound bound duty dominates : Bool) → cond (not sound) (Refused (Scheme Unsound)) (cond (not bound) (Refused BoundNoRole) (cond (not duty) (Refused DutyNoRole) (cond dominates MayStart MayNotStart))) ≡ MayStart → dominates ≡ true
 passed false b d o e = let z : _≡_ {A = ℕ} 0 1 = cc in absurd (omega arith)
 passed true false d o e = let z : _≡_ {A = ℕ} 0 1 = cc in absurd (omega arith)
 passed true true false o e = let z : _≡_ {A = ℕ} 0 1 = cc in absurd (omega arith)

@@ -9,6 +9,8 @@ use Rattle.std.specs.declared.option.Option.the-variants.{None, Some}
 use Rattle.std.specs.declared.result.Result.{Result}
 use Rattle.std.specs.declared.result.Result.the-variants.{Ok, Err}
 use Rattle.roles.specs.Meaning.{Meaning}
+use Rattle.roles.specs.Refusal.{number-of as scheme-number, place-of as scheme-place}
+use Rattle.roles.specs.declared.scheme.SchemeFault.the-variants.{Unsound}
 use Rattle.codes.specs.Bytes.{little-endian}
 use Rattle.blocks.specs.Kinds.{scheme-of}
 use Rattle.blocks.specs.Format.{Parsed, block-of}
@@ -16,7 +18,7 @@ use Rattle.blocks.specs.Format.{number-of as block-number, place-of as block-pl
 use Rattle.blocks.specs.declared.block.BlockFault.{BlockFault}
 use Rattle.dispatcher.specs.declared.report.Codes.{Codes}
 use Rattle.dispatcher.specs.declared.report.Refusal.{Refusal}
-use Rattle.dispatcher.specs.declared.report.Refusal.the-variants.{Block, Unsound, TooShort, TooLong, BoundNoRole, DutyNoRole}
+use Rattle.dispatcher.specs.declared.report.Refusal.the-variants.{Block, Scheme, TooShort, TooLong, BoundNoRole, DutyNoRole}
 use Rattle.dispatcher.specs.declared.report.Decision.{Decision}
 use Rattle.dispatcher.specs.declared.report.Decision.the-variants.{MayStart, MayNotStart, Refused}
 use Rattle.dispatcher.specs.declared.report.Report.{Report}
@@ -24,7 +26,7 @@ use Rattle.dispatcher.specs.declared.report.Report.{Report}
 -- the number of a refusal
 abbrev pub number-of : Refusal → ℕ
 number-of (Block fault) = block-number fault
-number-of Unsound = 2
+number-of (Scheme fault) = scheme-number fault
 number-of TooShort = 3
 number-of TooLong = 5
 number-of BoundNoRole = 9
@@ -33,7 +35,7 @@ number-of DutyNoRole = 30
 -- the place of a refusal: no entry is meant
 abbrev pub place-of : Refusal → ℕ
 place-of (Block fault) = block-place fault
-place-of Unsound = 0
+place-of (Scheme fault) = scheme-place fault
 place-of TooShort = 0
 place-of TooLong = 0
 place-of BoundNoRole = 0
@@ -42,7 +44,7 @@ place-of DutyNoRole = 0
 -- the decision on two codes: the questions in their order, then the comparison
 abbrev pub compared : Meaning → Codes → Decision
 compared m codes =
-    cond (not (m .sound)) (Refused Unsound)
+    cond (not (m .sound)) (Refused (Scheme Unsound))
     (cond (not (m .role (codes .bound))) (Refused BoundNoRole)
     (cond (not (m .role (codes .«on_duty»))) (Refused DutyNoRole)
     (cond (m .dom (codes .«on_duty») (codes .bound)) MayStart MayNotStart)))
@@ -53,7 +55,7 @@ codes-in rest = record { «on_duty» = little-endian 8 rest 0; bound = little-en
 
 -- the refusal of an input whose block is not followed by two codes and nothing else
 abbrev pub wrong-length : Meaning → ℕ → Refusal
-wrong-length m n = cond (m .sound) (cond (ltb n 16) TooShort TooLong) Unsound
+wrong-length m n = cond (m .sound) (cond (ltb n 16) TooShort TooLong) (Scheme Unsound)
 
 -- what is reported after a block was read
 abbrev pub after-block : Parsed → Report

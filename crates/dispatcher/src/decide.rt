@@ -13,6 +13,7 @@ use blocks::block::Block;
 use blocks::kinds::BlockScheme;
 use blocks::read::read_block;
 use codes::bytes::read_code;
+use roles::refusal::ask_sound;
 use roles::scheme::Scheme;
 
 impl Refusal {
@@ -22,7 +23,7 @@ impl Refusal {
     {
         match self {
             Refusal::Block(fault) => fault.number(),
-            Refusal::Unsound => 2,
+            Refusal::Scheme(fault) => fault.number(),
             Refusal::TooShort => 3,
             Refusal::TooLong => 5,
             Refusal::BoundNoRole => 9,
@@ -36,6 +37,7 @@ impl Refusal {
     {
         match self {
             Refusal::Block(fault) => fault.place(),
+            Refusal::Scheme(fault) => fault.place(),
             _ => 0,
         }
     }
@@ -45,8 +47,8 @@ impl Refusal {
 fn compare<S: Scheme>(scheme: &S, codes: Codes) -> Decision
     ensures { λ r. ⌜ r ≡ compared (meaning (now (scheme .entry))) codes ⌝ }
 {
-    if !scheme.sound() {
-        Decision::Refused(Refusal::Unsound)
+    if let Err(fault) = ask_sound(scheme) {
+        Decision::Refused(Refusal::Scheme(fault))
     } else if !scheme.is_role(codes.bound) {
         Decision::Refused(Refusal::BoundNoRole)
     } else if !scheme.is_role(codes.on_duty) {
@@ -70,8 +72,8 @@ pub fn decide<S: Scheme>(scheme: &S, codes: Codes) -> Decision
 fn refuse_length<S: Scheme>(scheme: &S, length: usize) -> Refusal
     ensures { λ r. ⌜ r ≡ wrong-length (meaning (now (scheme .entry))) length ⌝ }
 {
-    if !scheme.sound() {
-        Refusal::Unsound
+    if let Err(fault) = ask_sound(scheme) {
+        Refusal::Scheme(fault)
     } else if length < 16 {
         Refusal::TooShort
     } else {

@@ -2,6 +2,9 @@ use blocks::block::Block;
 use blocks::block::BlockFault;
 use blocks::block::BlockFaultDebug;
 use blocks::block::BlockFaultPartialEq;
+use roles::scheme::SchemeFault;
+use roles::scheme::SchemeFaultDebug;
+use roles::scheme::SchemeFaultPartialEq;
 
 /// The two role codes that are compared.
 #[derive(Clone, Copy, PartialEq, Eq, Debug)]
@@ -15,8 +18,8 @@ pub struct Codes {
 pub enum Refusal {
     /// The input does not begin with a scheme block.
     Block(BlockFault),
-    /// The scheme is unsound.
-    Unsound,
+    /// The scheme is refused.
+    Scheme(SchemeFault),
     /// Fewer than 16 bytes follow the block.
     TooShort,
     /// More than 16 bytes follow the block.

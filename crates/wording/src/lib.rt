@@ -7,6 +7,7 @@ use dispatcher::report::Decision;
 use dispatcher::report::Refusal;
 use dispatcher::report::Report;
 use roles::scheme::Scheme;
+use roles::scheme::SchemeFault;
 use std::fmt;
 
 /// A report, to be printed: a line for the scheme, one for each code, one for the decision.
@@ -101,7 +102,7 @@ fn show_refusal<W: fmt::Write>(refusal: Refusal, f: &mut fmt::Formatter<W>) -> f
         Refusal::Block(BlockFault::UnknownKind(kind)) => {
             write!(f, "there is no scheme of kind {kind}, kinds are 0 to 3")
         }
-        Refusal::Unsound => write!(f, "the scheme is not sound"),
+        Refusal::Scheme(SchemeFault::Unsound) => write!(f, "the scheme is not sound"),
         Refusal::TooShort => {
             write!(
                 f,
