@@ -9,14 +9,24 @@ use std::alloc::Global;
 use tables::entry::Counts;
 use tables::entry::Entry;
 
-pub const NO_ENTRY: Entry = Entry { tag: 0, first: 0, second: 0, third: 0 };
+pub const NO_ENTRY: Entry = Entry {
+    tag: 0,
+    first: 0,
+    second: 0,
+    third: 0,
+};
 
 /// The scheme of the cases: roles are the codes below 256.
 pub const MASK: Mask = Mask { width: 8 };
 
 /// One entry.
 pub fn e(tag: u8, first: u32, second: u32, third: u64) -> Entry {
-    Entry { tag, first, second, third }
+    Entry {
+        tag,
+        first,
+        second,
+        third,
+    }
 }
 
 /// A base value of kind Unit.

@@ -72,9 +72,18 @@ fn sizes(rt: LibcRuntime) -> Result<(), Fail> {
 fn depths(rt: LibcRuntime) -> Result<(), Fail> {
     let heap = rt.alloc();
     let types = [base()];
-    check_eq(refused(heap, &types, nest(heap, 1022, 1023)?.as_slice())?, (0, 0))?;
-    check_eq(refused(heap, &types, nest(heap, 1023, 1023)?.as_slice())?, (12, 1))?;
-    check_eq(refused(heap, &types, nest(heap, 1022, 1022)?.as_slice())?, (12, 1))
+    check_eq(
+        refused(heap, &types, nest(heap, 1022, 1023)?.as_slice())?,
+        (0, 0),
+    )?;
+    check_eq(
+        refused(heap, &types, nest(heap, 1023, 1023)?.as_slice())?,
+        (12, 1),
+    )?;
+    check_eq(
+        refused(heap, &types, nest(heap, 1022, 1022)?.as_slice())?,
+        (12, 1),
+    )
 }
 
 #[test]

@@ -52,10 +52,22 @@ fn tables_without_room(rt: LibcRuntime) -> Result<(), Fail> {
     check_eq(told_with(image.as_slice(), &mut four, &mut two), (0, 0))?;
     let mut most = vec![in rt.alloc(); NO_ENTRY; 16384]?;
     let mut above = vec![in rt.alloc(); NO_ENTRY; 16385]?;
-    check_eq(told_with(image.as_slice(), most.as_mut_slice(), &mut two), (0, 0))?;
-    check_eq(told_with(image.as_slice(), above.as_mut_slice(), &mut two), (6, 0))?;
-    check_eq(told_with(image.as_slice(), &mut four, most.as_mut_slice()), (0, 0))?;
-    check_eq(told_with(image.as_slice(), &mut four, above.as_mut_slice()), (6, 0))
+    check_eq(
+        told_with(image.as_slice(), most.as_mut_slice(), &mut two),
+        (0, 0),
+    )?;
+    check_eq(
+        told_with(image.as_slice(), above.as_mut_slice(), &mut two),
+        (6, 0),
+    )?;
+    check_eq(
+        told_with(image.as_slice(), &mut four, most.as_mut_slice()),
+        (0, 0),
+    )?;
+    check_eq(
+        told_with(image.as_slice(), &mut four, above.as_mut_slice()),
+        (6, 0),
+    )
 }
 
 #[test]
@@ -71,6 +83,9 @@ fn outputs_of_another_length() -> Result<(), Fail> {
     check_eq(long[0], 9).note("nothing is written")?;
     check_eq(write_told(counts, &types, &terms, &mut right), (0, 0))?;
     check_eq(right[4], 1)?;
-    let none = Counts { types: u32::MAX, terms: u32::MAX };
+    let none = Counts {
+        types: u32::MAX,
+        terms: u32::MAX,
+    };
     check_eq(write_told(none, &types, &terms, &mut long), (4, 0))
 }

@@ -26,28 +26,64 @@ fn operands_of_variables(rt: LibcRuntime) -> Result<(), Fail> {
     let heap = rt.alloc();
     check_eq(term_refused(heap, &[e(17, 1023, 0, 0)])?, (12, 2))?;
     check_eq(term_refused(heap, &[e(17, 1024, 0, 0)])?, (8, 2))?;
-    check_eq(term_refused(heap, &[e(17, 0, 1, 0), e(18, 0, 0, 0)])?, (8, 2))?;
-    check_eq(term_refused(heap, &[e(17, 0, 0, 1), e(18, 0, 0, 0)])?, (8, 2))
+    check_eq(
+        term_refused(heap, &[e(17, 0, 1, 0), e(18, 0, 0, 0)])?,
+        (8, 2),
+    )?;
+    check_eq(
+        term_refused(heap, &[e(17, 0, 0, 1), e(18, 0, 0, 0)])?,
+        (8, 2),
+    )
 }
 
 #[test]
 fn operands_of_abstractions(rt: LibcRuntime) -> Result<(), Fail> {
     let heap = rt.alloc();
-    check_eq(term_refused(heap, &[e(17, 0, 0, 0), e(18, 0, 1, 1)])?, (0, 0))?;
-    check_eq(term_refused(heap, &[e(17, 0, 0, 0), e(18, 1, 0, 0)])?, (8, 3))?;
-    check_eq(term_refused(heap, &[e(17, 0, 0, 0), e(18, 0, 2, 0)])?, (8, 3)).note("no such sufficient claim")?;
-    check_eq(term_refused(heap, &[e(17, 0, 0, 0), e(18, 0, 0, 2)])?, (8, 3)).note("no such necessary claim")?;
-    check_eq(term_refused(heap, &[e(17, 0, 0, 0), e(18, 0, 0, 1 << 32)])?, (8, 3)).note("all 64 bits are compared")
+    check_eq(
+        term_refused(heap, &[e(17, 0, 0, 0), e(18, 0, 1, 1)])?,
+        (0, 0),
+    )?;
+    check_eq(
+        term_refused(heap, &[e(17, 0, 0, 0), e(18, 1, 0, 0)])?,
+        (8, 3),
+    )?;
+    check_eq(
+        term_refused(heap, &[e(17, 0, 0, 0), e(18, 0, 2, 0)])?,
+        (8, 3),
+    ).note("no such sufficient claim")?;
+    check_eq(
+        term_refused(heap, &[e(17, 0, 0, 0), e(18, 0, 0, 2)])?,
+        (8, 3),
+    ).note("no such necessary claim")?;
+    check_eq(
+        term_refused(heap, &[e(17, 0, 0, 0), e(18, 0, 0, 1 << 32)])?,
+        (8, 3),
+    ).note("all 64 bits are compared")
 }
 
 #[test]
 fn operands_of_pairs(rt: LibcRuntime) -> Result<(), Fail> {
     let heap = rt.alloc();
-    check_eq(term_refused(heap, &[unit(), unit(), e(19, 0, 1, 0)])?, (0, 0))?;
-    check_eq(term_refused(heap, &[unit(), unit(), e(19, 2, 1, 0)])?, (8, 4))?;
-    check_eq(term_refused(heap, &[unit(), unit(), e(24, 0, 2, 0)])?, (8, 4))?;
-    check_eq(term_refused(heap, &[unit(), unit(), e(24, 0, 1, 1)])?, (8, 4))?;
-    check_eq(term_refused(heap, &[unit(), unit(), e(19, 0, 3, 0)])?, (8, 4))
+    check_eq(
+        term_refused(heap, &[unit(), unit(), e(19, 0, 1, 0)])?,
+        (0, 0),
+    )?;
+    check_eq(
+        term_refused(heap, &[unit(), unit(), e(19, 2, 1, 0)])?,
+        (8, 4),
+    )?;
+    check_eq(
+        term_refused(heap, &[unit(), unit(), e(24, 0, 2, 0)])?,
+        (8, 4),
+    )?;
+    check_eq(
+        term_refused(heap, &[unit(), unit(), e(24, 0, 1, 1)])?,
+        (8, 4),
+    )?;
+    check_eq(
+        term_refused(heap, &[unit(), unit(), e(19, 0, 3, 0)])?,
+        (8, 4),
+    )
 }
 
 #[test]

@@ -29,7 +29,10 @@ fn operands_of_function(rt: LibcRuntime) -> Result<(), Fail> {
     check_eq(type_refused(heap, &[e(2, 0, 0, 0)])?, (8, 0))?;
     check_eq(type_refused(heap, &[base(), e(2, 1, 0, 0)])?, (8, 1)).note("names itself")?;
     check_eq(type_refused(heap, &[base(), e(2, 0, 1, 0)])?, (8, 1))?;
-    check_eq(type_refused(heap, &[base(), e(2, 0, 2, 0), base()])?, (8, 1)).note("names a higher one")?;
+    check_eq(
+        type_refused(heap, &[base(), e(2, 0, 2, 0), base()])?,
+        (8, 1),
+    ).note("names a higher one")?;
     check_eq(type_refused(heap, &[base(), e(2, 0, 0, 1)])?, (8, 1))
 }
 
@@ -49,6 +52,12 @@ fn operands_and_roles_of_guards(rt: LibcRuntime) -> Result<(), Fail> {
 fn the_lowest_is_told(rt: LibcRuntime) -> Result<(), Fail> {
     let heap = rt.alloc();
     check_eq(type_refused(heap, &[e(1, 3, 0, 0), e(0, 0, 0, 0)])?, (8, 0))?;
-    check_eq(type_refused(heap, &[base(), e(3, 0, 0, 256), e(9, 0, 0, 0)])?, (9, 1))?;
-    check_eq(refused(heap, &[base(), e(9, 0, 0, 0)], &[e(9, 0, 0, 0)])?, (7, 1)).note("types before terms")
+    check_eq(
+        type_refused(heap, &[base(), e(3, 0, 0, 256), e(9, 0, 0, 0)])?,
+        (9, 1),
+    )?;
+    check_eq(
+        refused(heap, &[base(), e(9, 0, 0, 0)], &[e(9, 0, 0, 0)])?,
+        (7, 1),
+    ).note("types before terms")
 }

@@ -14,10 +14,10 @@ use Rattle.tables.specs.Form.{entries-asked}
 use Rattle.trees.specs.Formed.{Formed}
 use Rattle.trees.specs.Trees.{type-by, type-of, term-by, term-of, coded}
 
--- A job all of whose questions were answered with yes is formed.
+-- The questions to the entries of a job are all answered with yes exactly if it is formed.
 abbrev pub Accepted-formed : Type 0
 Accepted-formed =
-    (role : ℕ → Bool) (types terms : List Entry) → entries-asked role types terms ≡ Ok tt → Formed role types terms
+    (role : ℕ → Bool) (types terms : List Entry) → (entries-asked role types terms ≡ Ok tt → Formed role types terms) × (Formed role types terms → entries-asked role types terms ≡ Ok tt)
 
 -- What a table's first entries stand for when others follow them.
 pub record Kept (types terms more-types more-terms : List Entry) : Type 0 where

@@ -2,7 +2,7 @@
 //! The definitions are in specs/, and each function stands for one fact about them, which specs/ states for every scheme.
 ghost use Rattle.trees.specs.Facts.{Accepted-closed, Accepted-coded, Accepted-formed, Prefix-keeps-trees, Trees-unfold};
 
-/// The entries of an accepted job are as their tags ask, each term but the last is named once, and each variable is bound.
+/// A job is accepted exactly if its entries are as their tags ask, each term but the last is named once, and each variable is bound.
 pub fn accepted_is_formed()
     ensures { λ _. ⌜ Accepted-formed ⌝ }
 {}
