@@ -9,7 +9,7 @@ use std::alloc::Global;
 use tables::entry::Counts;
 use tables::entry::Entry;
 
-pub const NO_ENTRY: Entry = Entry {
+pub(crate) const NO_ENTRY: Entry = Entry {
     tag: 0,
     first: 0,
     second: 0,
@@ -17,10 +17,10 @@ pub const NO_ENTRY: Entry = Entry {
 };
 
 /// The scheme of the cases: roles are the codes below 256.
-pub const MASK: Mask = Mask { width: 8 };
+pub(crate) const MASK: Mask = Mask { width: 8 };
 
 /// One entry.
-pub fn e(tag: u8, first: u32, second: u32, third: u64) -> Entry {
+pub(crate) fn e(tag: u8, first: u32, second: u32, third: u64) -> Entry {
     Entry {
         tag,
         first,
@@ -30,12 +30,12 @@ pub fn e(tag: u8, first: u32, second: u32, third: u64) -> Entry {
 }
 
 /// A base value of kind Unit.
-pub fn unit() -> Entry {
+pub(crate) fn unit() -> Entry {
     e(16, 0, 0, 0)
 }
 
 /// A base type.
-pub fn base() -> Entry {
+pub(crate) fn base() -> Entry {
     e(1, 0, 0, 0)
 }
 
@@ -58,7 +58,7 @@ fn lay_operands(image: &mut Vec<u8>, table: &[Entry]) -> Result<(), AllocError> 
 }
 
 /// The image of two tables, asked nothing.
-pub fn lay(heap: Global, types: &[Entry], terms: &[Entry]) -> Result<Vec<u8>, AllocError> {
+pub(crate) fn lay(heap: Global, types: &[Entry], terms: &[Entry]) -> Result<Vec<u8>, AllocError> {
     let mut image = Vec::new(heap);
     let t = (types.len() % 65536) as u16;
     let n = (terms.len() % 65536) as u16;
@@ -72,7 +72,7 @@ pub fn lay(heap: Global, types: &[Entry], terms: &[Entry]) -> Result<Vec<u8>, Al
 }
 
 /// Number and place of what an image is refused with; 0 and 0 if it is accepted.
-pub fn told(image: &[u8]) -> (u8, u32) {
+pub(crate) fn told(image: &[u8]) -> (u8, u32) {
     let mut types = [NO_ENTRY; 1536];
     let mut terms = [NO_ENTRY; 1024];
     match read(&MASK, image, &mut types, &mut terms) {
@@ -82,23 +82,27 @@ pub fn told(image: &[u8]) -> (u8, u32) {
 }
 
 /// What the image of two tables is refused with.
-pub fn refused(heap: Global, types: &[Entry], terms: &[Entry]) -> Result<(u8, u32), AllocError> {
+pub(crate) fn refused(
+    heap: Global,
+    types: &[Entry],
+    terms: &[Entry],
+) -> Result<(u8, u32), AllocError> {
     let image = lay(heap, types, terms)?;
     Ok(told(image.as_slice()))
 }
 
 /// What a job of one unit and of these types is refused with.
-pub fn type_refused(heap: Global, types: &[Entry]) -> Result<(u8, u32), AllocError> {
+pub(crate) fn type_refused(heap: Global, types: &[Entry]) -> Result<(u8, u32), AllocError> {
     refused(heap, types, &[unit()])
 }
 
 /// What a job of two types and of these terms is refused with.
-pub fn term_refused(heap: Global, terms: &[Entry]) -> Result<(u8, u32), AllocError> {
+pub(crate) fn term_refused(heap: Global, terms: &[Entry]) -> Result<(u8, u32), AllocError> {
     refused(heap, &[base(), base()], terms)
 }
 
 /// What a reading into lent tables of so many places is refused with.
-pub fn told_with(image: &[u8], types: &mut [Entry], terms: &mut [Entry]) -> (u8, u32) {
+pub(crate) fn told_with(image: &[u8], types: &mut [Entry], terms: &mut [Entry]) -> (u8, u32) {
     match read(&MASK, image, types, terms) {
         Ok(_) => (0, 0),
         Err(fault) => (fault.number(), fault.place()),
@@ -106,7 +110,12 @@ pub fn told_with(image: &[u8], types: &mut [Entry], terms: &mut [Entry]) -> (u8,
 }
 
 /// What a writing is refused with.
-pub fn write_told(counts: Counts, types: &[Entry], terms: &[Entry], out: &mut [u8]) -> (u8, u32) {
+pub(crate) fn write_told(
+    counts: Counts,
+    types: &[Entry],
+    terms: &[Entry],
+    out: &mut [u8],
+) -> (u8, u32) {
     match write(&MASK, counts, types, terms, out) {
         Ok(()) => (0, 0),
         Err(fault) => (fault.number(), fault.place()),
@@ -114,7 +123,7 @@ pub fn write_told(counts: Counts, types: &[Entry], terms: &[Entry], out: &mut [u
 }
 
 /// The number of a fault of reading under another scheme.
-pub fn number_under(width: u32, image: &[u8]) -> u8 {
+pub(crate) fn number_under(width: u32, image: &[u8]) -> u8 {
     let mut types = [NO_ENTRY; 1536];
     let mut terms = [NO_ENTRY; 1024];
     match read(&Mask { width }, image, &mut types, &mut terms) {

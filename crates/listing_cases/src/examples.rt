@@ -108,50 +108,12 @@ fn what_is_refused(rt: LibcRuntime) -> Result<(), Fail> {
         text.as_str(),
         "refused: number 2, place 0, the scheme is not sound\n",
     )?;
-    let twice = Spoken(
-        &[
-            0,
-            8,
-            0,
-            0,
-            2,
-            0,
-            16,
-            19,
-            0,
-            0,
-            0,
-            0,
-            0,
-            0,
-            0,
-            0,
-            0,
-            0,
-            0,
-            0,
-            0,
-            0,
-            0,
-            0,
-            0,
-            0,
-            0,
-            0,
-            0,
-            0,
-            0,
-            0,
-            0,
-            0,
-            0,
-            0,
-            0,
-            0,
-            0,
-            0,
-        ],
-    );
+    let mut image = [0u8; 40];
+    image[1] = 8;
+    image[4] = 2;
+    image[6] = 16;
+    image[7] = 19;
+    let twice = Spoken(&image);
     let named = format!(heap, "{twice}")?;
     check_eq(
         named.as_str(),

@@ -15,7 +15,6 @@ use Rattle.tables.specs.declared.entry.Entry.{Entry}
 use Rattle.tables.specs.Depths.{binds-first, binds-second, depths, bound-at}
 use Rattle.tables.specs.Entries.{at, names, term-tag}
 use Rattle.tables.specs.Lower.{Lower, Rooted}
-use Rattle.trees.specs.Facts.{Accepted-closed}
 use Rattle.trees.specs.Formed.{Formed}
 use Rattle.trees.specs.Trees.{type-of, term-by, term-of}
 use Rattle.trees.proofs.ByTag.{by-term-tag}
@@ -74,7 +73,7 @@ module _ (role : ℕ → Bool) (types terms : List Entry) (ok : Formed role type
       ∙ closed-below b (e .second) (omega arith) (omega arith))
       (ok .bound k l)
 
-pub closes : Accepted-closed
-closes role types terms ok some few =
-    ap (λ d. closed d (term-of types terms (length terms - 1))) (sym (depth-last terms (lower role types terms ok) few some))
-    ∙ closed-below role types terms ok few (length terms) (length terms - 1) (omega arith) (omega arith)
+  pub closed-last : 1 ≤ length terms → closed 0 (term-of types terms (length terms - 1)) ≡ true
+  closed-last some =
+      ap (λ d. closed d (term-of types terms (length terms - 1))) (sym (depth-last terms (lower role types terms ok) few some))
+      ∙ closed-below (length terms) (length terms - 1) (omega arith) (omega arith)

@@ -20,7 +20,6 @@ use Rattle.tables.specs.Depths.{depths, bound-at}
 use Rattle.tables.specs.Form.{type-asked, ask-type, ask-term, ask-use, ask-bound, entries-asked}
 use Rattle.tables.proofs.Asked.{and-first, and-second, asks-yes, each-yes}
 use Rattle.tables.proofs.Rooting.{type-yes, term-yes}
-use Rattle.trees.specs.Facts.{Accepted-formed}
 use Rattle.trees.specs.Formed.{Fit-type, Fit-term, Formed}
 
 -- each of the first k was asked
@@ -56,7 +55,7 @@ module _ (role : ℕ → Bool) (types terms : List Entry) (h : entries-asked rol
       let e = term-yes role (at terms i) i t (t + i) (each (ask-term role t terms) n i (and-first (of-each (ask-term role t terms) n 0) _ after-types) l) in
       record { tag = e .0; operands = e .1; code = e .2 }
 
-  formed-here : Formed role types terms
+  pub formed-here : Formed role types terms
   formed-here =
       record {
         types-fit = fit-type;
@@ -65,10 +64,10 @@ module _ (role : ℕ → Bool) (types terms : List Entry) (h : entries-asked rol
         bound = λ i l. asks-yes (bound-at (at terms i) (getD (depths terms) i 0)) (Unbound (t + i)) (each (ask-bound t terms) n i (and-second (of-each (ask-use t terms) (n - 1) 0) _ after-terms) l);
       }
 
-yes : (b : Bool) (f : FormFault) → b ≡ true → asks b f ≡ Ok tt
+pub yes : (b : Bool) (f : FormFault) → b ≡ true → asks b f ≡ Ok tt
 yes b f h = ap (λ x. asks x f) h
 
-both : (a b : Answer) → a ≡ Ok tt → b ≡ Ok tt → and-then a b ≡ Ok tt
+pub both : (a b : Answer) → a ≡ Ok tt → b ≡ Ok tt → and-then a b ≡ Ok tt
 both a b p q = ap (λ x. and-then x b) p ∙ q
 
 -- a yes from each of k makes a yes of the scan
@@ -77,7 +76,7 @@ every ask zero i h = refl
 every ask (suc k) i h = both _ _ (h i (omega arith) (omega arith)) (every ask k (i + 1) (λ j a b. h j (omega arith) (omega arith)))
 
 module _ (role : ℕ → Bool) (types terms : List Entry) (ok : Formed role types terms) where
-  accepted-here : entries-asked role types terms ≡ Ok tt
+  pub accepted-here : entries-asked role types terms ≡ Ok tt
   accepted-here =
       both _ _ (every (ask-type role types) (length types) 0 (λ i a l.
       let e = ok .types-fit i (omega arith) in
@@ -87,6 +86,3 @@ module _ (role : ℕ → Bool) (types terms : List Entry) (ok : Formed role type
       both _ _ (yes _ _ (e .tag)) (both _ _ (yes _ _ (e .operands)) (yes _ _ (e .code)))))
       (both _ _ (every (ask-use (length types) terms) (length terms - 1) 0 (λ i a l. yes _ _ (eq-eqb (uses terms i) 1 (ok .named-once i (omega arith)))))
       (every (ask-bound (length types) terms) (length terms) 0 (λ i a l. yes _ _ (ok .bound i (omega arith))))))
-
-pub accepted-formed : Accepted-formed
-accepted-formed role types terms = (formed-here role types terms, accepted-here role types terms)

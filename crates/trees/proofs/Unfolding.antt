@@ -14,7 +14,6 @@ use Rattle.tables.specs.Ladder.{ladder, rung}
 use Rattle.tables.specs.Lower.{Lower}
 use Rattle.tables.proofs.Ladders.{getD-ladder}
 use Rattle.tables.proofs.Rooting.{operands-lower}
-use Rattle.trees.specs.Facts.{Trees-unfold, Unfolds}
 use Rattle.trees.specs.Formed.{Formed}
 use Rattle.trees.specs.Trees.{type-by, type-step, type-of, term-by, term-step, term-of}
 use Rattle.trees.proofs.ByTag.{by-type-tag, by-term-tag}
@@ -61,6 +60,3 @@ module _ (role : ℕ → Bool) (types terms : List Entry) (ok : Formed role type
   unfolding term-of
   term-unfold k l =
       term-same (type-of types) k (λ i. getD (ladder (term-step types terms) k) i (variable 0)) (term-of types terms) (λ i h. getD-ladder (term-step types terms) k i (variable 0) h) (at terms k) (ok .terms-fit k l .tag) (lower k l)
-
-pub unfolds : Trees-unfold
-unfolds role types terms ok = record { type-is = type-unfold role types terms ok; term-is = term-unfold role types terms ok }

@@ -1,9 +1,10 @@
 -- What it is for a job to have the form of one. Assumes nothing.
-use Prim.Native.Nat.{ℕ, _-_, _<_, _≤_}
+use Prim.Native.Nat.{ℕ, _+_, _-_, _<_, _≤_}
 use mathlib.Core.Path.{_≡_}
 use mathlib.Core.Bool.{Bool, true}
 use mathlib.Core.List.{List}
-use lib.ListN.{length, getD}
+use lib.ListN.{length, getD, take}
+use Rattle.roles.specs.Meaning.{Meaning}
 use Rattle.tables.specs.declared.entry.Entry.{Entry}
 use Rattle.tables.specs.Entries.{at, type-tag, type-operands, term-tag, term-operands, role-fits}
 use Rattle.tables.specs.Sizes.{size}
@@ -29,3 +30,15 @@ pub record Formed (role : ℕ → Bool) (types terms : List Entry) : Type 0 wher
   pub terms-fit : (i : ℕ) → i < length terms → Fit-term role (length types) terms i
   pub named-once : (i : ℕ) → i < length terms - 1 → uses terms i ≡ 1
   pub bound : (i : ℕ) → i < length terms → bound-at (at terms i) (getD (depths terms) i 0) ≡ true
+
+-- A job of t types and n terms in two tables that keeps the limits and is formed, under a sound scheme.
+pub record Accepted (m : Meaning) (t n : ℕ) (types terms : List Entry) : Type 0 where
+  pub sound : m .sound ≡ true
+  pub types-few : t ≤ 512
+  pub terms-some : 1 ≤ n
+  pub terms-few : n ≤ 1024
+  pub types-room : t + n ≤ length types
+  pub terms-room : n ≤ length terms
+  pub types-small : length types ≤ 16384
+  pub terms-small : length terms ≤ 16384
+  pub formed : Formed (m .role) (take t types) (take n terms)

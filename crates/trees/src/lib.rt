@@ -1,10 +1,10 @@
 //! What the entries of a job's tables stand for: the types and the terms of the calculus.
 //! The definitions are in specs/, and each function stands for one fact about them, which specs/ states for every scheme.
-ghost use Rattle.trees.specs.Facts.{Accepted-closed, Accepted-coded, Accepted-formed, Prefix-keeps-trees, Trees-unfold};
+ghost use Rattle.trees.specs.Facts.{Accepted-closed, Accepted-coded, Form-decides, Prefix-keeps-trees, Trees-unfold};
 
-/// A job is accepted exactly if its entries are as their tags ask, each term but the last is named once, and each variable is bound.
-pub fn accepted_is_formed()
-    ensures { λ _. ⌜ Accepted-formed ⌝ }
+/// The form scan accepts exactly the jobs that keep the limits, whose entries are as their tags ask, each term but the last named once and each variable bound.
+pub fn form_decides()
+    ensures { λ _. ⌜ Form-decides ⌝ }
 {}
 
 /// Entries that are appended to a table leave the trees of those before them as they were.
