@@ -91,17 +91,17 @@ module _ (m : Meaning) (t n : ℕ) (types terms : List Entry) (ok : Accepted m t
       let e = long-types in
       let fit = ok .formed .types-fit k (omega arith) in
       type-front k l
-      ∙ (type-unfold (m .role) T M (ok .formed) k (omega arith)
+      ∙ (type-unfold (m .role) T (ok .formed .types-fit) k (omega arith)
       ∙ (type-same k (type-of T) (type-of types) (λ i h. sym (type-front i (omega arith))) (at T k) (fit .tag) (fit .operands) ∙ ap (λ x. type-by x (type-of types)) (getD-take t types k no-entry l)))
 
   term-is : (k : ℕ) → k < n → term-of types terms k ≡ term-by (type-of types) (at terms k) (term-of types terms)
   term-is k l =
       let d = long-types in
       let e = long-terms in
-      let fit = ok .formed .terms-fit k (omega arith) in
+      let fit = ok .formed .threaded .fit k (omega arith) in
       term-front k l
-      ∙ (term-unfold (m .role) T M (ok .formed) k (omega arith)
-      ∙ (term-same (type-of T) k (term-of T M) (term-of types terms) (λ i h. sym (term-front i (omega arith))) (at M k) (fit .tag) (lower (m .role) T M (ok .formed) k (omega arith))
+      ∙ (term-unfold (m .role) T M (ok .formed .threaded) k (omega arith)
+      ∙ (term-same (type-of T) k (term-of T M) (term-of types terms) (λ i h. sym (term-front i (omega arith))) (at M k) (fit .tag) (lower (m .role) T M (ok .formed .threaded) k (omega arith))
       ∙ (claims-same (length T) k (type-of T) (type-of types) (term-of types terms) (λ i h. sym (type-front i (omega arith))) (at M k) (fit .tag) (fit .operands) ∙ ap (λ x. term-by (type-of types) x (term-of types terms)) (getD-take n terms k no-entry l))))
 
   closed-job : closed 0 (term-of types terms (n - 1)) ≡ true
@@ -110,7 +110,7 @@ module _ (m : Meaning) (t n : ℕ) (types terms : List Entry) (ok : Accepted m t
       let s = ok .terms-some in
       let f = ok .terms-few in
       let last : n - 1 ≡ length M - 1 = omega arith in
-      ap (closed 0) (term-front (n - 1) (omega arith) ∙ ap (term-of T M) last) ∙ closed-last (m .role) T M (ok .formed) (omega arith) (omega arith)
+      ap (closed 0) (term-front (n - 1) (omega arith) ∙ ap (term-of T M) last) ∙ closed-last (m .role) T M (ok .formed .threaded) (omega arith) (ok .formed .bound) (omega arith)
 
   coded-job : Coded m t n types terms
   coded-job =

@@ -59,8 +59,7 @@ module _ (role : ℕ → Bool) (types terms : List Entry) (h : entries-asked rol
   formed-here =
       record {
         types-fit = fit-type;
-        terms-fit = fit-term;
-        named-once = λ i l. eqb-true (uses terms i) 1 (asks-yes (eqb (uses terms i) 1) (Named (t + i) (uses terms i)) (each (ask-use t terms) (n - 1) i (and-first (of-each (ask-use t terms) (n - 1) 0) _ after-terms) l));
+        threaded = record { fit = fit-term; once = λ i l. eqb-true (uses terms i) 1 (asks-yes (eqb (uses terms i) 1) (Named (t + i) (uses terms i)) (each (ask-use t terms) (n - 1) i (and-first (of-each (ask-use t terms) (n - 1) 0) _ after-terms) l)) };
         bound = λ i l. asks-yes (bound-at (at terms i) (getD (depths terms) i 0)) (Unbound (t + i)) (each (ask-bound t terms) n i (and-second (of-each (ask-use t terms) (n - 1) 0) _ after-terms) l);
       }
 
@@ -82,7 +81,7 @@ module _ (role : ℕ → Bool) (types terms : List Entry) (ok : Formed role type
       let e = ok .types-fit i (omega arith) in
       both _ _ (both _ _ (yes _ _ (e .tag)) (both _ _ (yes _ _ (e .operands)) (yes _ _ (e .code)))) (yes _ _ (le-leb (size types i) 4096 (e .small)))))
       (both _ _ (every (ask-term role (length types) terms) (length terms) 0 (λ i a l.
-      let e = ok .terms-fit i (omega arith) in
+      let e = ok .threaded .fit i (omega arith) in
       both _ _ (yes _ _ (e .tag)) (both _ _ (yes _ _ (e .operands)) (yes _ _ (e .code)))))
-      (both _ _ (every (ask-use (length types) terms) (length terms - 1) 0 (λ i a l. yes _ _ (eq-eqb (uses terms i) 1 (ok .named-once i (omega arith)))))
+      (both _ _ (every (ask-use (length types) terms) (length terms - 1) 0 (λ i a l. yes _ _ (eq-eqb (uses terms i) 1 (ok .threaded .once i (omega arith)))))
       (every (ask-bound (length types) terms) (length terms) 0 (λ i a l. yes _ _ (ok .bound i (omega arith))))))

@@ -57,7 +57,7 @@ pub claims-kept : (types terms more : List Entry) (role : ℕ → Bool) → Form
 unfolding term-of
 claims-kept types terms more role ok k l =
     rung-same (term-step (types ++ more) terms) (term-step types terms) k (λ j h.
-    let e = ok .terms-fit j (omega arith) in
+    let e = ok .threaded .fit j (omega arith) in
     let each : (es : List Term) → term-step (types ++ more) terms j es ≡ term-step types terms j es = λ es. claims-same (length types) j (type-of (types ++ more)) (type-of types) (λ i. getD es i (variable 0)) (types-kept types more) (at terms j) (e .tag) (e .operands) in
     λ i es. each es i)
 

@@ -1,5 +1,5 @@
 -- The facts about trees that stand on the contracts of this crate. Assumes nothing.
-use Prim.Native.Nat.{ℕ, _-_, _<_}
+use Prim.Native.Nat.{ℕ, _-_, _<_, _≤_}
 use mathlib.Core.Path.{_≡_}
 use mathlib.Core.Bool.{Bool, true}
 use mathlib.Core.List.{List, _++_}
@@ -11,7 +11,7 @@ use Rattle.calculus.specs.Subtyping.{well-coded}
 use Rattle.tables.specs.declared.entry.Entry.{Entry}
 use Rattle.tables.specs.Entries.{at}
 use Rattle.tables.specs.Form.{form}
-use Rattle.trees.specs.Formed.{Formed, Accepted}
+use Rattle.trees.specs.Formed.{Threaded, Bound, Formed, Accepted}
 use Rattle.trees.specs.Trees.{type-by, type-of, term-by, term-of, coded}
 
 -- All questions of form are answered with yes exactly if the job keeps the limits and is formed.
@@ -43,6 +43,11 @@ Trees-unfold = (m : Meaning) (t n : ℕ) (types terms : List Entry) → Accepted
 abbrev pub Accepted-closed : Type 0
 Accepted-closed =
     (m : Meaning) (t n : ℕ) (types terms : List Entry) → Accepted m t n types terms → closed 0 (term-of types terms (n - 1)) ≡ true
+
+-- Where the terms are one tree, every variable is bound exactly if the last term is closed.
+abbrev pub Bound-closed : Type 0
+Bound-closed =
+    (role : ℕ → Bool) (types terms : List Entry) → Threaded role (length types) terms → 1 ≤ length terms → length terms ≤ 1024 → (Bound terms → closed 0 (term-of types terms (length terms - 1)) ≡ true) × (closed 0 (term-of types terms (length terms - 1)) ≡ true → Bound terms)
 
 -- Of t types and n terms every role code is a role.
 pub record Coded (m : Meaning) (t n : ℕ) (types terms : List Entry) : Type 0 where

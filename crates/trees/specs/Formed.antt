@@ -24,12 +24,20 @@ pub record Fit-term (role : ℕ → Bool) (t : ℕ) (terms : List Entry) (i : �
   pub operands : term-operands (at terms i) i t ≡ true
   pub code : role-fits role (at terms i) ≡ true
 
--- Every type and term fits, every term but the last is named once, and every variable is bound.
+-- In a job of t types every term fits, and every term but the last is named once: the terms are one tree.
+pub record Threaded (role : ℕ → Bool) (t : ℕ) (terms : List Entry) : Type 0 where
+  pub fit : (i : ℕ) → i < length terms → Fit-term role t terms i
+  pub once : (i : ℕ) → i < length terms - 1 → uses terms i ≡ 1
+
+-- Every variable is bound.
+abbrev pub Bound : List Entry → Type 0
+Bound terms = (i : ℕ) → i < length terms → bound-at (at terms i) (getD (depths terms) i 0) ≡ true
+
+-- Every type fits, the terms are one tree, and every variable is bound.
 pub record Formed (role : ℕ → Bool) (types terms : List Entry) : Type 0 where
   pub types-fit : (i : ℕ) → i < length types → Fit-type role types i
-  pub terms-fit : (i : ℕ) → i < length terms → Fit-term role (length types) terms i
-  pub named-once : (i : ℕ) → i < length terms - 1 → uses terms i ≡ 1
-  pub bound : (i : ℕ) → i < length terms → bound-at (at terms i) (getD (depths terms) i 0) ≡ true
+  pub threaded : Threaded role (length types) terms
+  pub bound : Bound terms
 
 -- A job of t types and n terms in two tables that keeps the limits and is formed, under a sound scheme.
 pub record Accepted (m : Meaning) (t n : ℕ) (types terms : List Entry) : Type 0 where
