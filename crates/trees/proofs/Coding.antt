@@ -13,7 +13,6 @@ use Rattle.calculus.specs.Syntax.{Ty, Term}
 use Rattle.tables.specs.declared.entry.Entry.{Entry}
 use Rattle.tables.specs.Entries.{at, type-tag, type-operands, term-tag, term-operands, role-fits}
 use Rattle.tables.specs.Lower.{Lower}
-use Rattle.trees.specs.Facts.{Accepted-coded}
 use Rattle.trees.specs.Formed.{Formed}
 use Rattle.trees.specs.Trees.{type-by, type-of, term-by, term-of, coded}
 use Rattle.trees.proofs.ByTag.{by-type-tag, by-term-tag}
@@ -53,19 +52,18 @@ module _ (m : Meaning) (types terms : List Entry) (ok : Formed (m .role) types t
   types-below zero k h l = let z : ⊥ = omega arith in absurd z
   types-below (suc b) k h l =
       let e = ok .types-fit k l in
-      ap (well-coded m) (type-unfold (m .role) types terms ok k l)
+      ap (well-coded m) (type-unfold (m .role) types (ok .types-fit) k l)
       ∙ type-coded m k (type-of types) (λ i q. types-below b i (omega arith) (omega arith)) (at types k) (e .tag) (e .operands) (e .code)
 
-  types-coded : (k : ℕ) → k < length types → well-coded m (type-of types k) ≡ true
+  pub types-coded : (k : ℕ) → k < length types → well-coded m (type-of types k) ≡ true
   types-coded k l = types-below (suc k) k (omega arith) l
 
   terms-below : (b k : ℕ) → k < b → k < length terms → coded m (term-of types terms k) ≡ true
   terms-below zero k h l = let z : ⊥ = omega arith in absurd z
   terms-below (suc b) k h l =
-      let e = ok .terms-fit k l in
-      ap (coded m) (term-unfold (m .role) types terms ok k l)
-      ∙ term-coded m (length types) k (type-of types) (term-of types terms) types-coded (λ i q. terms-below b i (omega arith) (omega arith)) (at terms k) (e .tag) (lower (m .role) types terms ok k l) (e .operands) (e .code)
+      let e = ok .threaded .fit k l in
+      ap (coded m) (term-unfold (m .role) types terms (ok .threaded) k l)
+      ∙ term-coded m (length types) k (type-of types) (term-of types terms) types-coded (λ i q. terms-below b i (omega arith) (omega arith)) (at terms k) (e .tag) (lower (m .role) types terms (ok .threaded) k l) (e .operands) (e .code)
 
-pub codes-are-roles : Accepted-coded
-codes-are-roles m types terms ok =
-    record { types-coded = types-coded m types terms ok; terms-coded = λ k l. terms-below m types terms ok (suc k) k (omega arith) l }
+  pub terms-coded : (k : ℕ) → k < length terms → coded m (term-of types terms k) ≡ true
+  terms-coded k l = terms-below (suc k) k (omega arith) l

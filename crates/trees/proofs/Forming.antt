@@ -1,14 +1,16 @@
 -- From a yes to all questions to what they ask.
-use Prim.Native.Nat.{ℕ, _+_, _-_, _<_}
-use mathlib.Core.Path.{_≡_, sym, ap, _∙_, subst}
+use Prim.Native.Nat.{ℕ, zero, suc, _+_, _-_, _<_, _≤_}
+use mathlib.Core.Path.{_≡_, refl, sym, ap, _∙_}
 use mathlib.Core.Bool.{Bool, true}
 use mathlib.Core.List.{List}
 use native.Mathlib.Nat.{zero-add}
+use native.Mathlib.Omega.{arith}
 use lib.Dec.{eqb, leb}
 use lib.ListN.{length, getD}
 use Rattle.std.specs.declared.result.Result.the-variants.{Ok}
-use Rattle.std.proofs.shelf.Tests.{leb-true, eqb-true}
+use Rattle.std.proofs.shelf.Tests.{leb-true, le-leb, eqb-true, eq-eqb}
 use Rattle.tables.specs.declared.entry.Entry.{Entry}
+use Rattle.tables.specs.declared.fault.FormFault.{FormFault}
 use Rattle.tables.specs.declared.fault.FormFault.the-variants.{Size, Named, Unbound}
 use Rattle.tables.specs.Asking.{Answer, asks, and-then, of-each}
 use Rattle.tables.specs.Entries.{at}
@@ -18,7 +20,6 @@ use Rattle.tables.specs.Depths.{depths, bound-at}
 use Rattle.tables.specs.Form.{type-asked, ask-type, ask-term, ask-use, ask-bound, entries-asked}
 use Rattle.tables.proofs.Asked.{and-first, and-second, asks-yes, each-yes}
 use Rattle.tables.proofs.Rooting.{type-yes, term-yes}
-use Rattle.trees.specs.Facts.{Accepted-formed}
 use Rattle.trees.specs.Formed.{Fit-type, Fit-term, Formed}
 
 -- each of the first k was asked
@@ -54,14 +55,33 @@ module _ (role : ℕ → Bool) (types terms : List Entry) (h : entries-asked rol
       let e = term-yes role (at terms i) i t (t + i) (each (ask-term role t terms) n i (and-first (of-each (ask-term role t terms) n 0) _ after-types) l) in
       record { tag = e .0; operands = e .1; code = e .2 }
 
-  formed-here : Formed role types terms
+  pub formed-here : Formed role types terms
   formed-here =
       record {
         types-fit = fit-type;
-        terms-fit = fit-term;
-        named-once = λ i l. eqb-true (uses terms i) 1 (asks-yes (eqb (uses terms i) 1) (Named (t + i) (uses terms i)) (each (ask-use t terms) (n - 1) i (and-first (of-each (ask-use t terms) (n - 1) 0) _ after-terms) l));
+        threaded = record { fit = fit-term; once = λ i l. eqb-true (uses terms i) 1 (asks-yes (eqb (uses terms i) 1) (Named (t + i) (uses terms i)) (each (ask-use t terms) (n - 1) i (and-first (of-each (ask-use t terms) (n - 1) 0) _ after-terms) l)) };
         bound = λ i l. asks-yes (bound-at (at terms i) (getD (depths terms) i 0)) (Unbound (t + i)) (each (ask-bound t terms) n i (and-second (of-each (ask-use t terms) (n - 1) 0) _ after-terms) l);
       }
 
-pub accepted-formed : Accepted-formed
-accepted-formed role types terms h = formed-here role types terms h
+pub yes : (b : Bool) (f : FormFault) → b ≡ true → asks b f ≡ Ok tt
+yes b f h = ap (λ x. asks x f) h
+
+pub both : (a b : Answer) → a ≡ Ok tt → b ≡ Ok tt → and-then a b ≡ Ok tt
+both a b p q = ap (λ x. and-then x b) p ∙ q
+
+-- a yes from each of k makes a yes of the scan
+every : (ask : ℕ → Answer) (k i : ℕ) → ((j : ℕ) → i ≤ j → j < i + k → ask j ≡ Ok tt) → of-each ask k i ≡ Ok tt
+every ask zero i h = refl
+every ask (suc k) i h = both _ _ (h i (omega arith) (omega arith)) (every ask k (i + 1) (λ j a b. h j (omega arith) (omega arith)))
+
+module _ (role : ℕ → Bool) (types terms : List Entry) (ok : Formed role types terms) where
+  pub accepted-here : entries-asked role types terms ≡ Ok tt
+  accepted-here =
+      both _ _ (every (ask-type role types) (length types) 0 (λ i a l.
+      let e = ok .types-fit i (omega arith) in
+      both _ _ (both _ _ (yes _ _ (e .tag)) (both _ _ (yes _ _ (e .operands)) (yes _ _ (e .code)))) (yes _ _ (le-leb (size types i) 4096 (e .small)))))
+      (both _ _ (every (ask-term role (length types) terms) (length terms) 0 (λ i a l.
+      let e = ok .threaded .fit i (omega arith) in
+      both _ _ (yes _ _ (e .tag)) (both _ _ (yes _ _ (e .operands)) (yes _ _ (e .code)))))
+      (both _ _ (every (ask-use (length types) terms) (length terms - 1) 0 (λ i a l. yes _ _ (eq-eqb (uses terms i) 1 (ok .threaded .once i (omega arith)))))
+      (every (ask-bound (length types) terms) (length terms) 0 (λ i a l. yes _ _ (ok .bound i (omega arith))))))

@@ -3,14 +3,14 @@ use Prim.Native.Nat.{ℕ, zero, suc, _+_, _-_, _<_, _≤_}
 use mathlib.Core.Path.{_≡_, refl, ap, sym, _∙_}
 use mathlib.Core.Bool.{Bool, true, false, cond, _&&_}
 use mathlib.Core.List.{List, [], _∷_}
-use mathlib.Core.Logic.{⊎-elim}
+use mathlib.Core.Logic.{_⊎_, inl, inr, ⊎-elim}
 use native.Mathlib.Nat.{zero-add}
 use native.Mathlib.Numerals.{add-one}
 use native.Mathlib.Omega.{arith}
 use lib.Dec.{eqb, ltb}
 use lib.ListN.{length, getD, set, take, drop, replicate}
 use Rattle.std.proofs.shelf.Lists.{getD-set-same, getD-set-other, drop-all}
-use Rattle.std.proofs.shelf.Tests.{eqb-true, eqb-false, eq-eqb, ne-eqb, lt-ltb, ltb-true, cases-bool, and-left, and-right, and-from, false≢true}
+use Rattle.std.proofs.shelf.Tests.{eqb-true, eqb-false, eq-eqb, ne-eqb, lt-ltb, ltb-true, cases-bool, cases-lt, and-left, and-right, and-from, false≢true}
 use Rattle.tables.specs.declared.entry.Entry.{Entry}
 use Rattle.tables.specs.Depths.{binds-first, binds-second, hand-first, hand-second, hand, depths-from, depths}
 use Rattle.tables.specs.Entries.{at, names}
@@ -30,10 +30,10 @@ put true x v j ds h l = ap (λ k. getD (set ds k v) j 0) (sym (eqb-true j x h)) 
 put false x v j ds h l = absurd (false≢true h)
 
 -- the two parts of a count
-abbrev by-first : Entry → ℕ → Bool
+abbrev pub by-first : Entry → ℕ → Bool
 by-first e j = ltb 0 (names (e .tag)) && eqb j (e .first)
 
-abbrev by-second : Entry → ℕ → Bool
+abbrev pub by-second : Entry → ℕ → Bool
 by-second e j = ltb 1 (names (e .tag)) && eqb j (e .second)
 
 none-first : (p q : Bool) → _≡_ {A = ℕ} (cond p 1 0 + cond q 1 0) 0 → p ≡ false
@@ -78,7 +78,7 @@ hand-second-is e d j ds b l =
     let long : length (hand-first e d ds) ≡ length ds = length-first e d ds in
     put (ltb 1 (names (e .tag))) (e .second) (d + binds-second (e .tag)) j (hand-first e d ds) b (omega arith)
 
-hits-above : (e : Entry) (k i : ℕ) → Lower e k → k ≤ i → hits e i ≡ 0
+pub hits-above : (e : Entry) (k i : ℕ) → Lower e k → k ≤ i → hits e i ≡ 0
 hits-above e k i low h =
     let first : by-first e i ≡ false = ⊎-elim (λ t. and-right (ltb 0 (names (e .tag))) _ (ne-eqb i (e .first) (λ q. let z : e .first < k = low .first (ltb-true 0 (names (e .tag)) t) in omega arith))) (λ t. and-left _ (eqb i (e .first)) t) (cases-bool (ltb 0 (names (e .tag)))) in
     let second : by-second e i ≡ false = ⊎-elim (λ t. and-right (ltb 1 (names (e .tag))) _ (ne-eqb i (e .second) (λ q. let z : e .second < k = low .second (ltb-true 1 (names (e .tag)) t) in omega arith))) (λ t. and-left _ (eqb i (e .second)) t) (cases-bool (ltb 1 (names (e .tag)))) in
@@ -133,3 +133,18 @@ module _ (M : List Entry) (rt : Rooted M) (few : length M ≤ 1024) where
     depth-second b =
         let long : length (depths-from (i + 1) (drop (i + 1) M)) ≡ 1024 = length-depths (i + 1) (drop (i + 1) M) in
         depth-of (some-second (by-first (at M i) j) (by-second (at M i) j) b) ∙ hand-second-is (at M i) _ j (depths-from (i + 1) (drop (i + 1) M)) b (omega arith)
+
+-- a term that is named has an entry that names it
+pub parent : (es : List Entry) (j : ℕ) → 1 ≤ uses es j → (i : ℕ) × (i < length es) × (1 ≤ hits (at es i) j)
+parent [] j h = let z : ⊥ = omega arith in absurd z
+parent (e ∷ es) j h = go (λ l. parent es j l) (cases-lt 0 (hits e j))
+  where
+    go : (1 ≤ uses es j → (i : ℕ) × (i < length es) × (1 ≤ hits (at es i) j)) → (0 < hits e j) ⊎ (hits e j ≤ 0) → (i : ℕ) × (i < length (e ∷ es)) × (1 ≤ hits (at (e ∷ es) i) j)
+    go ih (inl l) = (0, omega arith, omega arith)
+    go ih (inr l) = let p = ih (omega arith) in (suc (p .0), (let q : p .0 < length es = p .1 in omega arith), p .2)
+
+-- by one of its operands
+pub by-either : (p q : Bool) → 1 ≤ cond p 1 0 + cond q 1 0 → (p ≡ true) ⊎ (q ≡ true)
+by-either true q h = inl refl
+by-either false true h = inr refl
+by-either false false h = let z : ⊥ = omega arith in absurd z

@@ -20,14 +20,14 @@ use Rattle.trees.proofs.ByTag.{by-term-tag}
 same-at : (es more : List Entry) (j : ℕ) → j < length es → at (es ++ more) j ≡ at es j
 same-at es more j l = getD-append-left es more no-entry j l
 
-types-kept : (types more : List Entry) (k : ℕ) → k < length types → type-of (types ++ more) k ≡ type-of types k
+pub types-kept : (types more : List Entry) (k : ℕ) → k < length types → type-of (types ++ more) k ≡ type-of types k
 unfolding type-of
 types-kept types more k l =
     rung-same (type-step (types ++ more)) (type-step types) k (λ j h.
     let step : Entry → List Ty → Ty = λ e ts. type-by e (λ i. getD ts i (base unit-kind)) in
     ap step (same-at types more j (omega arith)))
 
-terms-kept : (types terms more : List Entry) (k : ℕ) → k < length terms → term-of types (terms ++ more) k ≡ term-of types terms k
+pub terms-kept : (types terms more : List Entry) (k : ℕ) → k < length terms → term-of types (terms ++ more) k ≡ term-of types terms k
 unfolding term-of
 terms-kept types terms more k l =
     rung-same (term-step types (terms ++ more)) (term-step types terms) k (λ j h.
@@ -35,7 +35,7 @@ terms-kept types terms more k l =
     ap step (same-at terms more j (omega arith)))
 
 -- a term looks only at claims below t
-claims-same : (t k : ℕ) (c d : ℕ → Ty) (w : ℕ → Term) → ((i : ℕ) → i < t → c i ≡ d i) → (e : Entry) → term-tag (e .tag) ≡ true → term-operands e k t ≡ true → term-by c e w ≡ term-by d e w
+pub claims-same : (t k : ℕ) (c d : ℕ → Ty) (w : ℕ → Term) → ((i : ℕ) → i < t → c i ≡ d i) → (e : Entry) → term-tag (e .tag) ≡ true → term-operands e k t ≡ true → term-by c e w ≡ term-by d e w
 claims-same t k c d w same =
     by-term-tag (λ e. term-operands e k t ≡ true → term-by c e w ≡ term-by d e w)
     (λ f s x h. refl)
@@ -53,14 +53,14 @@ claims-same t k c d w same =
     (λ f s x h. refl)
     (λ f s x h. refl)
 
-claims-kept : (types terms more : List Entry) (role : ℕ → Bool) → Formed role types terms → (k : ℕ) → k < length terms → term-of (types ++ more) terms k ≡ term-of types terms k
+pub claims-kept : (types terms more : List Entry) (role : ℕ → Bool) → Formed role types terms → (k : ℕ) → k < length terms → term-of (types ++ more) terms k ≡ term-of types terms k
 unfolding term-of
 claims-kept types terms more role ok k l =
     rung-same (term-step (types ++ more) terms) (term-step types terms) k (λ j h.
-    let e = ok .terms-fit j (omega arith) in
+    let e = ok .threaded .fit j (omega arith) in
     let each : (es : List Term) → term-step (types ++ more) terms j es ≡ term-step types terms j es = λ es. claims-same (length types) j (type-of (types ++ more)) (type-of types) (λ i. getD es i (variable 0)) (types-kept types more) (at terms j) (e .tag) (e .operands) in
     λ i es. each es i)
 
 pub keeps : Prefix-keeps-trees
 keeps types terms more-types more-terms =
-    (record { types-kept = types-kept types more-types; terms-kept = terms-kept types terms more-terms }, claims-kept types terms more-types)
+    record { types-kept = types-kept types more-types; terms-kept = terms-kept types terms more-terms; claims-kept = claims-kept types terms more-types }

@@ -5,3 +5,4 @@ pub mod Keeping
 pub mod Coding
 pub mod Handing
 pub mod Closing
+pub mod Accepting

@@ -14,8 +14,7 @@ use Rattle.tables.specs.Ladder.{ladder, rung}
 use Rattle.tables.specs.Lower.{Lower}
 use Rattle.tables.proofs.Ladders.{getD-ladder}
 use Rattle.tables.proofs.Rooting.{operands-lower}
-use Rattle.trees.specs.Facts.{Trees-unfold, Unfolds}
-use Rattle.trees.specs.Formed.{Formed}
+use Rattle.trees.specs.Formed.{Fit-type, Threaded}
 use Rattle.trees.specs.Trees.{type-by, type-step, type-of, term-by, term-step, term-of}
 use Rattle.trees.proofs.ByTag.{by-type-tag, by-term-tag}
 
@@ -47,20 +46,17 @@ term-same claim k w v same =
     (λ f s c h. ap (raise c) (same f (h .first (lit< tt))))
     (λ f s c h. ap (restrict c) (same f (h .first (lit< tt))))
 
-module _ (role : ℕ → Bool) (types terms : List Entry) (ok : Formed role types terms) where
-  pub lower : (k : ℕ) → k < length terms → Lower (at terms k) k
-  lower k l = operands-lower (at terms k) k (length types) (ok .terms-fit k l .operands)
-
+module _ (role : ℕ → Bool) (types : List Entry) (fit : (i : ℕ) → i < length types → Fit-type role types i) where
   pub type-unfold : (k : ℕ) → k < length types → type-of types k ≡ type-by (at types k) (type-of types)
   unfolding type-of
   type-unfold k l =
-      let e = ok .types-fit k l in
-      type-same k (λ i. getD (ladder (type-step types) k) i (base unit-kind)) (type-of types) (λ i h. getD-ladder (type-step types) k i (base unit-kind) h) (at types k) (e .tag) (e .operands)
+      type-same k (λ i. getD (ladder (type-step types) k) i (base unit-kind)) (type-of types) (λ i h. getD-ladder (type-step types) k i (base unit-kind) h) (at types k) (fit k l .tag) (fit k l .operands)
+
+module _ (role : ℕ → Bool) (types terms : List Entry) (tree : Threaded role (length types) terms) where
+  pub lower : (k : ℕ) → k < length terms → Lower (at terms k) k
+  lower k l = operands-lower (at terms k) k (length types) (tree .fit k l .operands)
 
   pub term-unfold : (k : ℕ) → k < length terms → term-of types terms k ≡ term-by (type-of types) (at terms k) (term-of types terms)
   unfolding term-of
   term-unfold k l =
-      term-same (type-of types) k (λ i. getD (ladder (term-step types terms) k) i (variable 0)) (term-of types terms) (λ i h. getD-ladder (term-step types terms) k i (variable 0) h) (at terms k) (ok .terms-fit k l .tag) (lower k l)
-
-pub unfolds : Trees-unfold
-unfolds role types terms ok = record { type-is = type-unfold role types terms ok; term-is = term-unfold role types terms ok }
+      term-same (type-of types) k (λ i. getD (ladder (term-step types terms) k) i (variable 0)) (term-of types terms) (λ i h. getD-ladder (term-step types terms) k i (variable 0) h) (at terms k) (tree .fit k l .tag) (lower k l)

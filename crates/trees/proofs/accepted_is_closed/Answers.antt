@@ -1,4 +1,4 @@
-use Rattle.trees.proofs.Closing.{closes}
+use Rattle.trees.proofs.Accepting.{closes}
 use Rattle.trees.proofs.accepted_is_closed.Needs as need
 
 pub returns : need.returns

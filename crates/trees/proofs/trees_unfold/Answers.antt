@@ -1,4 +1,4 @@
-use Rattle.trees.proofs.Unfolding.{unfolds}
+use Rattle.trees.proofs.Accepting.{unfolds}
 use Rattle.trees.proofs.trees_unfold.Needs as need
 
 pub returns : need.returns

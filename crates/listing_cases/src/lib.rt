@@ -1,0 +1,3 @@
+//! Jobs as they are listed.
+#[cfg(test)]
+mod examples;
