@@ -1,0 +1,3 @@
+//! The two checks of a job.
+pub mod compare;
+pub mod system;
