@@ -1,1 +1,6 @@
 pub mod Compares
+pub mod Judges
+pub mod Envs
+pub mod Depths
+pub mod Walks
+pub mod Stack

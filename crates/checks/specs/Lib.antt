@@ -1,2 +1,4 @@
 pub mod Systems
 pub mod Compare
+pub mod Judge
+pub mod Frames

@@ -2,3 +2,4 @@ pub mod Placing
 pub mod Sums
 pub mod Onces
 pub mod TypeTrees
+pub mod Unfolding

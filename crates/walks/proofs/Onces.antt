@@ -15,8 +15,7 @@ use Rattle.tables.specs.declared.entry.Entry.{Entry}
 use Rattle.tables.specs.Entries.{at, names}
 use Rattle.tables.specs.Uses.{hits, uses}
 use Rattle.tables.proofs.Used.{uses-more}
-use Rattle.walks.specs.Places.{operand-of}
-use Rattle.walks.proofs.Placing.{Placed, Rooted}
+use Rattle.walks.specs.Places.{operand-of, Placed, Rooted}
 use Rattle.walks.proofs.Sums.{sum-rest, sum-of, size-of, sum-is}
 
 abbrev sum : (ℕ → ℕ) → ℕ → ℕ
@@ -68,7 +67,7 @@ abbrev hit-rest : Entry → ℕ → ℕ → ℕ → ℕ
 hit-rest e zero j i = 0
 hit-rest e (suc n) j i = one (operand-of e j) i + hit-rest e n (j + 1) i
 
-names-most : (t : ℕ) → names t ≤ 2
+pub names-most : (t : ℕ) → names t ≤ 2
 names-most t = go (eqb t 16 || eqb t 17) (eqb t 19 || eqb t 24)
   where
     go : (a b : Bool) → cond a 0 (cond b 2 1) ≤ 2

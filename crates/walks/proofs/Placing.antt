@@ -17,7 +17,7 @@ use Rattle.tables.specs.Lower.{Lower}
 use Rattle.tables.proofs.Rooting.{operands-lower}
 use Rattle.trees.specs.Formed.{Formed}
 use Rattle.trees.proofs.ByTag.{by-type-tag, by-term-tag}
-use Rattle.walks.specs.Places.{operand-of, Low, Grounded, Walkable}
+use Rattle.walks.specs.Places.{operand-of, Low, Grounded, Placed, Rooted, Walkable}
 
 -- a type that answered with yes
 pub low-of : (role : ℕ → Bool) (k : ℕ) (e : Entry) → type-tag (e .tag) ≡ true → type-operands e k ≡ true → role-fits role e ≡ true → Low role k e
@@ -57,18 +57,6 @@ low-of role k =
       two = λ z. let y : ⊥ = omega arith in absurd y;
       code = λ _. r;
     })
-
--- a term that answered with yes
-pub record Placed (role : ℕ → Bool) (t k : ℕ) (e : Entry) : Type 0 where
-  pub least : 16 ≤ e .tag
-  pub most : e .tag ≤ 26
-  pub low : (j : ℕ) → j < names (e .tag) → operand-of e j < k
-  pub claim : e .tag ≡ 18 → (e .second < t) × (e .third < t)
-  pub value : e .tag ≡ 16 → e .first ≤ 2
-  pub code : role-tag (e .tag) ≡ true → role (e .third) ≡ true
-
-abbrev pub Rooted : (ℕ → Bool) → ℕ → List Entry → ℕ → Type 0
-Rooted role t es n = (k : ℕ) → k < n → Placed role t k (at es k)
 
 claims-low : (k t : ℕ) (e : Entry) → term-operands e k t ≡ true → e .tag ≡ 18 → (e .second < t) × (e .third < t)
 claims-low k t e h z = (grind (arith, tells), grind (arith, tells))

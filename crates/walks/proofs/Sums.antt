@@ -9,8 +9,7 @@ use Rattle.tables.specs.declared.entry.Entry.{Entry}
 use Rattle.tables.specs.Entries.{at, names}
 use Rattle.tables.specs.Ladder.{ladder, rung}
 use Rattle.tables.proofs.Ladders.{getD-ladder}
-use Rattle.walks.specs.Places.{operand-of}
-use Rattle.walks.proofs.Placing.{Placed, Rooted}
+use Rattle.walks.specs.Places.{operand-of, Placed, Rooted}
 
 -- what n operands of e from the s-th on take, if operand j takes p + c j
 abbrev pub sum-rest : ℕ → Entry → (ℕ → ℕ) → ℕ → ℕ → ℕ

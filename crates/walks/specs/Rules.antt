@@ -64,25 +64,35 @@ fixed m α p T f =
     asked (eqb (at T f .tag) 2) (NoFunction p)
     (asked (below m α T (at T f .second) (at T f .first)) (Result p) (Known (at T f .second)))
 
--- Check of an x: is x guarded? Then it is a computation with the guard's role.
+-- Check of an operand of type b: is it guarded? Then it is a computation with the guard's role.
+abbrev pub checked-as : ℕ → Entry → Finding
+checked-as p b = asked (eqb (b .tag) 3) (NoGuard p) (New (computation-type (b .third) (b .first)))
+
+-- Let with a computation of type a first and an operand of type b second: is it a computation? Then it is one at the join of both roles.
+abbrev pub joined-as : Meaning → ℕ → Entry → Entry → Finding
+joined-as m p a b =
+    asked (eqb (b .tag) 4) (NoComputation p) (New (computation-type (role-of (m .join (a .third) (b .third))) (b .first)))
+
+-- Raise by a role of an operand of type b: is it a computation? Then it is one at the remainder of its role by that role.
+abbrev pub raised-as : Meaning → ℕ → ℕ → Entry → Finding
+raised-as m p by b =
+    asked (eqb (b .tag) 4) (NoComputation p) (New (computation-type (role-of (m .remainder (b .third) by)) (b .first)))
+
+-- Restriction to a role of an operand of type b: is it a computation, and, for sufficiency, does the role dominate its role? Then its type is as before.
+abbrev pub restricted-as : Meaning → System → ℕ → ℕ → Entry → Finding
+restricted-as m α p to b =
+    asked (eqb (b .tag) 4) (NoComputation p)
+    (asked (permits m α to (b .third)) (Restriction p) (New (computation-type (b .third) (b .first))))
+
+-- The same of an operand by the number of its type.
 abbrev pub checked : ℕ → List Entry → ℕ → Finding
-checked p T x =
-    asked (eqb (at T x .tag) 3) (NoGuard p) (New (computation-type (at T x .third) (at T x .first)))
+checked p T x = checked-as p (at T x)
 
--- Let with the computation f first and x second: is x a computation? Then it is one at the join of both roles.
 abbrev pub joined : Meaning → ℕ → List Entry → ℕ → ℕ → Finding
-joined m p T f x =
-    asked (eqb (at T x .tag) 4) (NoComputation p)
-    (New (computation-type (role-of (m .join (at T f .third) (at T x .third))) (at T x .first)))
+joined m p T f x = joined-as m p (at T f) (at T x)
 
--- Raise by a of an x: is x a computation? Then it is one at the remainder of its role by a.
 abbrev pub raised : Meaning → ℕ → List Entry → ℕ → ℕ → Finding
-raised m p T a x =
-    asked (eqb (at T x .tag) 4) (NoComputation p)
-    (New (computation-type (role-of (m .remainder (at T x .third) a)) (at T x .first)))
+raised m p T by x = raised-as m p by (at T x)
 
--- Restriction to a of an x: is x a computation, and, for sufficiency, does a dominate its role? Then its type is as before.
 abbrev pub restricted : Meaning → System → ℕ → List Entry → ℕ → ℕ → Finding
-restricted m α p T a x =
-    asked (eqb (at T x .tag) 4) (NoComputation p)
-    (asked (permits m α a (at T x .third)) (Restriction p) (New (computation-type (at T x .third) (at T x .first))))
+restricted m α p T to x = restricted-as m α p to (at T x)

@@ -4,6 +4,8 @@ use mathlib.Core.Bool.{Bool, true, false, cond}
 use mathlib.Core.List.{List, [], _∷_}
 use lib.Dec.{eqb}
 use lib.ListN.{getD, set}
+use Rattle.std.specs.declared.result.Result.{Result}
+use Rattle.std.specs.declared.result.Result.the-variants.{Ok, Err}
 use Rattle.roles.specs.Meaning.{Meaning}
 use Rattle.calculus.specs.Subtyping.{System}
 use Rattle.tables.specs.declared.entry.Entry.{Entry}
@@ -37,10 +39,12 @@ settled (Refused c) T u = stopped T c
 settled (Known x) T u = going T u x
 settled (New e) T u = going (set T u e) (u + 1) u
 
--- The operand of a let has to be a computation before the second is looked at; the second is under its inner type.
-abbrev pub let-second : ℕ → Entry → (ℕ → Walker) → List ℕ → List Entry → ℕ → ℕ → Walked
-let-second p e w Γ T u f =
-    cond (eqb (at T f .tag) 4) (w (e .second) (at T f .first ∷ Γ) T u) (stopped T (NoComputation p))
+-- The rest of a let whose first operand has the type f: that has to be a computation before the second is looked at, which is under its inner type.
+abbrev pub let-rest : Meaning → ℕ → Entry → (ℕ → Walker) → List ℕ → List Entry → ℕ → ℕ → Walked
+let-rest m p e w Γ T u f =
+    cond (eqb (at T f .tag) 4)
+    (and-then (w (e .second) (at T f .first ∷ Γ) T u) (λ T u x. settled (joined m p T f x) T u))
+    (stopped T (NoComputation p))
 
 -- The walk of the term e, which stands at place p, by the walks of the terms that it names; rule by rule, in the order of the tags.
 abbrev pub walk-by : Meaning → System → ℕ → Entry → (ℕ → Walker) → Walker
@@ -53,9 +57,19 @@ walk-by m α p e w Γ T u =
     (cond (eqb (e .tag) 21) (and-then (w (e .first) Γ T u) (λ T u x. settled (New (guarded-type (e .third) x)) T u))
     (cond (eqb (e .tag) 22) (and-then (w (e .first) Γ T u) (λ T u x. settled (checked p T x) T u))
     (cond (eqb (e .tag) 23) (and-then (w (e .first) Γ T u) (λ T u x. settled (New (computation-type (m .bottom) x)) T u))
-    (cond (eqb (e .tag) 24) (and-then (w (e .first) Γ T u) (λ T u f. and-then (let-second p e w Γ T u f) (λ T u x. settled (joined m p T f x) T u)))
+    (cond (eqb (e .tag) 24) (and-then (w (e .first) Γ T u) (λ T u f. let-rest m p e w Γ T u f))
     (cond (eqb (e .tag) 25) (and-then (w (e .first) Γ T u) (λ T u x. settled (raised m p T (e .third) x) T u))
     (and-then (w (e .first) Γ T u) (λ T u x. settled (restricted m α p T (e .third) x) T u)))))))))))
+
+-- What a walk tells in the end: the type found last, or the fault.
+abbrev pub told : Walked → Result ℕ TypingFault
+told (going T u x) = Ok x
+told (stopped T c) = Err c
+
+-- The table that a walk leaves.
+abbrev pub table-of : Walked → List Entry
+table-of (going T u x) = T
+table-of (stopped T c) = T
 
 -- The walk of term k by the list of the walks of the terms below it.
 abbrev pub walk-step : Meaning → System → ℕ → List Entry → ℕ → List Walker → Walker
