@@ -43,6 +43,7 @@ pub record Fits (m : Meaning) (t root : ℕ) (es T : List Entry) (u v : ℕ) (fs
   pub deep : (i : ℕ) → i < top → getD fs i no-frame .depth ≤ i
   pub rising : (i k : ℕ) → i ≤ k → k < top → getD fs i no-frame .depth ≤ getD fs k no-frame .depth
   -- the types that are looked at are there
+  pub done : top ≡ 0 → v < u
   pub seen : (i : ℕ) → suc i ≡ top → 0 < getD fs i no-frame .stage → v < u
   pub kept : (i : ℕ) → i < top → 2 ≤ getD fs i no-frame .stage → getD fs i no-frame .first < u
   pub lets : (i : ℕ) → i < top → 2 ≤ getD fs i no-frame .stage → at es (getD fs i no-frame .number) .tag ≡ 24 → at T (getD fs i no-frame .first) .tag ≡ 4
@@ -72,6 +73,7 @@ start-fits m t root es T fs bs lf lb q g d = record {
   low = λ i h. let z = ap num (same i h) in omega arith;
   deep = λ i h. let z = ap dep (same i h) in omega arith;
   rising = λ i k a h. let z = ap dep (same i (omega arith)) in omega arith;
+  done = λ z. omega arith;
   seen = λ i h s. let z = ap stg (same i (omega arith)) in omega arith;
   kept = λ i h s. let z = ap stg (same i h) in omega arith;
   lets = λ i h s. let z = ap stg (same i h) in let y : ⊥ = omega arith in absurd y;
@@ -188,6 +190,7 @@ module _ (m : Meaning) (L : Lawful m) (α : System) (t : ℕ) (T₀ es : List En
     low = λ i l. f .low i (omega arith);
     deep = λ i l. f .deep i (omega arith);
     rising = λ i k a l. f .rising i k a (omega arith);
+    done = λ z. h;
     seen = λ i l s. h;
     kept = λ i l s. f .kept i (omega arith) s;
     lets = λ i l s. f .lets i (omega arith) s;
@@ -205,6 +208,7 @@ module _ (m : Meaning) (L : Lawful m) (α : System) (t : ℕ) (T₀ es : List En
     low = λ i l. f .low i (omega arith);
     deep = λ i l. f .deep i (omega arith);
     rising = λ i k a l. f .rising i k a (omega arith);
+    done = λ z. omega arith;
     seen = λ i l s. omega arith;
     kept = λ i l s. omega (arith, f .kept i (omega arith) s);
     lets = λ i l s z. ap (λ (y : Entry). y .tag) (getD-set-other T u (getD fs i no-frame .first) x no-entry (omega (arith, f .kept i (omega arith) s))) ∙ f .lets i (omega arith) s z;
@@ -444,6 +448,7 @@ module _ (m : Meaning) (L : Lawful m) (α : System) (t : ℕ) (T₀ es : List En
       low = low′;
       deep = deep′;
       rising = rising′;
+      done = λ z. omega arith;
       seen = seen′;
       kept = kept′;
       lets = lets′;

@@ -2,3 +2,5 @@ pub mod Systems
 pub mod Compare
 pub mod Judge
 pub mod Frames
+pub mod Faults
+pub mod Checking

@@ -1,8 +1,9 @@
 //! The walk of a check over the terms of a job: a loop with a stack.
 ghost use mathlib.Core.Path.{_≡_};
 ghost use mathlib.Core.List.{[]};
-ghost use Prim.Native.Nat.{_+_, _-_, _<_, _≤_, _^_};
+ghost use Prim.Native.Nat.{ℕ, _+_, _-_, _<_, _≤_, _^_};
 ghost use lib.ListN.{length};
+ghost use Rattle.std.specs.declared.result.Result.the-variants.{Ok};
 ghost use Rattle.walks.specs.Places.{operand-of, Walkable};
 ghost use Rattle.walks.specs.Walk.{walk-of, told, table-of};
 ghost use Rattle.checks.specs.Frames.{binder-of, binds-of, deeper-of, enters-of, env};
@@ -98,6 +99,7 @@ pub(crate) fn walk<S: Scheme>(
     requires { ⌜ Walkable (meaning (now scheme)) t (now types) (now terms) ⌝ }
     ensures answer { λ r. ⌜ r ≡ told (walk-of (meaning (now (scheme .entry))) (meant system) t (now (terms .entry)) (length (now (terms .entry)) - 1) [] (now (types .entry)) t) ⌝ }
     ensures table { λ r. ⌜ now (types .exit) ≡ table-of (walk-of (meaning (now (scheme .entry))) (meant system) t (now (terms .entry)) (length (now (terms .entry)) - 1) [] (now (types .entry)) t) ⌝ }
+    ensures there { λ r. ⌜ ((x : ℕ) → r ≡ Ok x → x < length (now (types .exit))) ⌝ }
 {
     let root = terms.len() as u32 - 1;
     let mut frames = [Frame {

