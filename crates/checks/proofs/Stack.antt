@@ -20,6 +20,7 @@ use Rattle.walks.specs.declared.finding.Finding.{Finding}
 use Rattle.walks.specs.Places.{operand-of, Low, Grounded, Placed, Rooted, Walkable}
 use Rattle.walks.specs.Rules.{claim-of}
 use Rattle.walks.specs.Walk.{Walked, going, stopped, and-then, settled, walk-of}
+use Rattle.walks.proofs.Goods.{Good}
 use Rattle.walks.proofs.Onces.{names-most, once-size}
 use Rattle.walks.proofs.Placing.{rooted}
 use Rattle.walks.proofs.Sums.{sum-rest, sum-of, sum-is}
@@ -29,7 +30,7 @@ use Rattle.checks.specs.Frames.{enters-of, binds-of, binder-of, deeper-of, env
 use Rattle.checks.specs.Judge.{bound-of, judge-of, Ready}
 use Rattle.checks.proofs.Depths.{depth-down, bound-here}
 use Rattle.checks.proofs.Envs.{env-same, env-more, env-low}
-use Rattle.checks.proofs.Judges.{Good, judge-good}
+use Rattle.checks.proofs.Judges.{judge-good}
 use Rattle.checks.proofs.Walks.{no-frame, under, todo, walk-is, todo-more, todo-stop, todo-done, run, pend, pend-same, pend-stopped, frame-sum, pend-sum, pend-sum-same, two, two-top, two-here, two-below}
 
 pub record Fits (m : Meaning) (t root : ℕ) (es T : List Entry) (u v : ℕ) (fs : List Frame) (bs : List ℕ) (top : ℕ) : Type 0 where
@@ -173,7 +174,7 @@ module _ (m : Meaning) (L : Lawful m) (α : System) (t : ℕ) (T₀ es : List En
       omega arith
 
   pub good : names (E .tag) ≤ F .stage → u ≤ length T → u ≤ 2048 → Good (m .role) u (judge-of m α (t + F .number) T E (F .first) v (bound-of (env bs (F .depth)) E))
-  good h a b = judge-good m L α (t + F .number) T u E (F .first) v (bound-of (env bs (F .depth)) E) (ready h a b) bound-low
+  good h a b = judge-good m L α (t + F .number) T u E (F .first) v (ready h a b) (bound-of (env bs (F .depth)) E) bound-low
 
   pub done-pend : names (E .tag) ≤ F .stage → pend m α t es fs bs top (going T u v) ≡ pend m α t es fs bs j (settled (judge-of m α (t + F .number) T E (F .first) v (bound-of (env bs (F .depth)) E)) T u)
   done-pend h =

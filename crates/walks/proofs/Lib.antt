@@ -4,3 +4,5 @@ pub mod Onces
 pub mod TypeTrees
 pub mod Unfolding
 pub mod Accepting
+pub mod Goods
+pub mod Links

@@ -40,7 +40,7 @@ pub returns-in-rest : need.returns-in-rest
 returns-in-rest g c = let l = c .pre .own .3 .least in let h = c .pre .own .3 .most in let z : c .args .e .tag ≡ 26 = omega arith in c .restricted .ensures ∙ sym (judge-26 (g .S·Scheme .meaning (c .args .scheme .now)) (meant (c .args .system)) (c .args .place) (c .args .types .now) (c .args .e) (c .args .f) (c .args .x) (c .args .bound) z)
 
 pub joined-requires : need.joined-requires
-joined-requires g c κs z = let-there (g .S·Scheme .meaning (c .args .scheme .now)) (g .S·Scheme·met .lawful (c .args .scheme .now)) (c .args .types .now) (c .args .used) (c .args .e) (c .args .f) (c .args .x) (c .pre) (c .in-24 .is) z
+joined-requires g c κs z = let-there (g .S·Scheme .meaning (c .args .scheme .now)) (g .S·Scheme·met .lawful (c .args .scheme .now)) (meant (c .args .system)) (c .args .place) (c .args .types .now) (c .args .used) (c .args .e) (c .args .f) (c .args .x) (c .pre) (c .in-24 .is) z
 
 pub raised-requires : need.raised-requires
-raised-requires g c κs z = raise-there (g .S·Scheme .meaning (c .args .scheme .now)) (g .S·Scheme·met .lawful (c .args .scheme .now)) (c .args .types .now) (c .args .used) (c .args .e) (c .args .f) (c .args .x) (c .pre) (c .in-25 .is) z
+raised-requires g c κs z = raise-there (g .S·Scheme .meaning (c .args .scheme .now)) (g .S·Scheme·met .lawful (c .args .scheme .now)) (meant (c .args .system)) (c .args .place) (c .args .types .now) (c .args .used) (c .args .e) (c .args .f) (c .args .x) (c .pre) (c .in-25 .is) z
