@@ -6,3 +6,4 @@ pub mod Unfolding
 pub mod Accepting
 pub mod Goods
 pub mod Links
+pub mod Linking

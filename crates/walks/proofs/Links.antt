@@ -159,7 +159,7 @@ module _ (m : Meaning) (L : Lawful m) (α : System) (p : ℕ) (T : List Entry) (
   tree-4 x l h = tree-is (m .role) T u x g l ∙ node-4 (at T x) (type-of T) h
 
   -- by the shape of a type that is looked at: a property of its tree and its tag
-  pub by-shape : (P : Ty → ℕ → Type 0) (x : ℕ) → x < u → P (base (kind (at T x .first))) 1 → P (function (type-of T (at T x .first)) (type-of T (at T x .second))) 2 → (m .role (at T x .third) ≡ true → P (guarded (at T x .third) (type-of T (at T x .first))) 3) → (m .role (at T x .third) ≡ true → P (computation (at T x .third) (type-of T (at T x .first))) 4) → P (type-of T x) (at T x .tag)
+  pub by-shape : (P : Ty → ℕ → Type 0) (x : ℕ) → x < u → P (base (kind (at T x .first))) 1 → P (function (type-of T (at T x .first)) (type-of T (at T x .second))) 2 → (at T x .tag ≡ 3 → P (guarded (at T x .third) (type-of T (at T x .first))) 3) → (at T x .tag ≡ 4 → P (computation (at T x .third) (type-of T (at T x .first))) 4) → P (type-of T x) (at T x .tag)
   by-shape P x l p1 p2 p3 p4 = go (tag-of (m .role) x (at T x) (g x l))
     where
       put : (y : Ty) (n : ℕ) → type-of T x ≡ y → at T x .tag ≡ n → P y n → P (type-of T x) (at T x .tag)
@@ -168,8 +168,8 @@ module _ (m : Meaning) (L : Lawful m) (α : System) (p : ℕ) (T : List Entry) (
       go : Four (at T x .tag) → P (type-of T x) (at T x .tag)
       go (is1 h) = put _ 1 (tree-1 x l h) h p1
       go (is2 h) = put _ 2 (tree-2 x l h) h p2
-      go (is3 h) = put _ 3 (tree-3 x l h) h (p3 (g x l .code (omega arith)))
-      go (is4 h) = put _ 4 (tree-4 x l h) h (p4 (g x l .code (omega arith)))
+      go (is3 h) = put _ 3 (tree-3 x l h) h (p3 h)
+      go (is4 h) = put _ 4 (tree-4 x l h) h (p4 h)
 
   given-judges : (b : Bool) (c : TypingFault) (o : Option Ty) (j : Finding) → Judges T o j → Judges T (given b o) (asked b c j)
   given-judges true c o j h = h
@@ -200,12 +200,12 @@ module _ (m : Meaning) (L : Lawful m) (α : System) (p : ℕ) (T : List Entry) (
   pub join-judges : (f x : ℕ) → m .role (at T f .third) ≡ true → x < u → Judges T (join-to m (at T f .third) (type-of T x)) (joined m p T f x)
   join-judges f x r l =
       by-shape (λ y n. Judges T (join-to m (at T f .third) y) (asked (eqb n 4) (NoComputation p) (New (computation-type (role-of (m .join (at T f .third) (at T x .third))) (at T x .first))))) x l refl refl (λ _. refl)
-      (λ q. some-judges (at T x .first) (m .join (at T f .third) (at T x .third)) (join-there m L _ _ r q))
+      (λ q. some-judges (at T x .first) (m .join (at T f .third) (at T x .third)) (join-there m L _ _ r (g x l .code (omega arith))))
 
   pub raise-judges : (a x : ℕ) → m .role a ≡ true → x < u → Judges T (raise-by m a (type-of T x)) (raised m p T a x)
   raise-judges a x r l =
       by-shape (λ y n. Judges T (raise-by m a y) (asked (eqb n 4) (NoComputation p) (New (computation-type (role-of (m .remainder (at T x .third) a)) (at T x .first))))) x l refl refl (λ _. refl)
-      (λ q. some-judges (at T x .first) (m .remainder (at T x .third) a) (remainder-there m L _ _ q r))
+      (λ q. some-judges (at T x .first) (m .remainder (at T x .third) a) (remainder-there m L _ _ (g x l .code (omega arith)) r))
 
   pub restrict-judges : (a x : ℕ) → m .role a ≡ true → x < u → Judges T (restrict-to m α a (type-of T x)) (restricted m α p T a x)
   restrict-judges a x r l =
