@@ -4,3 +4,4 @@ pub mod Envs
 pub mod Depths
 pub mod Walks
 pub mod Stack
+pub mod Meaning

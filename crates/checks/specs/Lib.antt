@@ -4,3 +4,4 @@ pub mod Judge
 pub mod Frames
 pub mod Faults
 pub mod Checking
+pub mod Sense

@@ -2,7 +2,10 @@
 ghost use mathlib.Core.Path.{_≡_};
 ghost use Rattle.calculus.specs.Subtyping.{sufficient, necessary};
 ghost use Rattle.checks.specs.Checking.{bound-in, check-of, cleared};
+ghost use Rattle.checks.specs.Sense.{job-term, plain, Says};
 ghost use Rattle.checks.specs.Systems.{meant};
+ghost use Rattle.walks.specs.Sense.{Within};
+ghost use Prim.Native.Nat.{_+_};
 use crate::clearance::Clearance;
 use crate::fault::CheckFault;
 use crate::fault::CheckFromForm;
@@ -43,6 +46,16 @@ fn check<S: Scheme>(
     Ok(bound(scheme, types[found as usize]))
 }
 
+// An accepted sufficient check is a clearance; nothing else makes one.
+fn clear(answer: Result<u64, CheckFault>) -> Result<Clearance, CheckFault>
+    ensures { λ r. ⌜ r ≡ cleared answer ⌝ }
+{
+    match answer {
+        Ok(bound) => Ok(Clearance { bound }),
+        Err(fault) => Err(fault),
+    }
+}
+
 /// The sufficient check of a job of so many types and terms in two lent tables. An accepted job is cleared at its bound.
 /// Types are appended from place `counts.types` up; a refusal leaves those that were appended.
 pub fn check_sufficient<S: Scheme>(
@@ -53,9 +66,10 @@ pub fn check_sufficient<S: Scheme>(
 ) -> Result<Clearance, CheckFault>
     ensures answer { λ r. ⌜ r ≡ cleared (check-of (meaning (now (scheme .entry))) sufficient (counts .types) (counts .terms) (now (types .entry)) (now (terms .entry)) .answer) ⌝ }
     ensures table { λ _. ⌜ now (types .exit) ≡ check-of (meaning (now (scheme .entry))) sufficient (counts .types) (counts .terms) (now (types .entry)) (now (terms .entry)) .table ⌝ }
+    ensures sense { λ r. ⌜ Says (meaning (now (scheme .entry))) sufficient (job-term (counts .types) (counts .terms) (now (types .entry)) (now (terms .entry))) (plain r) ⌝ }
+    ensures within { λ _. ⌜ Within (counts .types) (counts .types + counts .terms) (now (types .entry)) (now (types .exit)) ⌝ }
 {
-    let bound = check(scheme, System::Sufficient, counts, types, terms)?;
-    Ok(Clearance { bound })
+    clear(check(scheme, System::Sufficient, counts, types, terms))
 }
 
 /// The necessary check of a job of so many types and terms in two lent tables; an accepted job has the bound that it answers.
@@ -68,6 +82,8 @@ pub fn check_necessary<S: Scheme>(
 ) -> Result<u64, CheckFault>
     ensures answer { λ r. ⌜ r ≡ check-of (meaning (now (scheme .entry))) necessary (counts .types) (counts .terms) (now (types .entry)) (now (terms .entry)) .answer ⌝ }
     ensures table { λ _. ⌜ now (types .exit) ≡ check-of (meaning (now (scheme .entry))) necessary (counts .types) (counts .terms) (now (types .entry)) (now (terms .entry)) .table ⌝ }
+    ensures sense { λ r. ⌜ Says (meaning (now (scheme .entry))) necessary (job-term (counts .types) (counts .terms) (now (types .entry)) (now (terms .entry))) r ⌝ }
+    ensures within { λ _. ⌜ Within (counts .types) (counts .types + counts .terms) (now (types .entry)) (now (types .exit)) ⌝ }
 {
     check(scheme, System::Necessary, counts, types, terms)
 }

@@ -1,6 +1,7 @@
 -- What a walk means by the rules of the calculus. Assumes nothing.
 use Prim.Native.Nat.{ℕ, _+_, _-_, _<_, _≤_}
 use mathlib.Core.Path.{_≡_}
+use mathlib.Core.Bool.{true}
 use mathlib.Core.List.{List, []}
 use lib.ListN.{length, take}
 use Rattle.roles.specs.Meaning.{Meaning, Lawful}
@@ -8,7 +9,7 @@ use Rattle.calculus.specs.Syntax.{Ty, Term}
 use Rattle.calculus.specs.Subtyping.{System, Subtype}
 use Rattle.calculus.specs.Typing.{Has}
 use Rattle.tables.specs.declared.entry.Entry.{Entry}
-use Rattle.tables.specs.Entries.{at}
+use Rattle.tables.specs.Entries.{at, type-tag}
 use Rattle.trees.specs.Trees.{type-of, term-of}
 use Rattle.walks.specs.Places.{Walkable}
 use Rattle.walks.specs.Walk.{Walked, going, stopped, table-of, walk-of}
@@ -27,6 +28,11 @@ abbrev pub Typed-by : Meaning → System → Term → Walked → Type 0
 Typed-by m α e (going T u x) = Least m α e (type-of T x)
 Typed-by m α e (stopped T c) = Untyped m α e
 
+-- What a walk has found is an entry of a type.
+abbrev pub Found : Walked → Type 0
+Found (going T u x) = type-tag (at T x .tag) ≡ true
+Found (stopped T c) = Unit {0}
+
 -- Two tables of one length differ in places from a up to b alone.
 pub record Within (a b : ℕ) (T T′ : List Entry) : Type 0 where
   pub long : length T′ ≡ length T
@@ -36,6 +42,7 @@ pub record Within (a b : ℕ) (T T′ : List Entry) : Type 0 where
 -- What the walk of a job comes to: it decides the typing of the job's term, and writes to one place per term at most, from place t up.
 pub record Decides (m : Meaning) (α : System) (t : ℕ) (types terms : List Entry) (w : Walked) : Type 0 where
   pub typed : Typed-by m α (term-of (take t types) terms (length terms - 1)) w
+  pub found : Found w
   pub within : Within t (t + length terms) types (table-of w)
 
 -- So it is for every lawful scheme and every job in the form of one.
