@@ -7,6 +7,7 @@ ghost use Rattle.checks.specs.Systems.{meant};
 ghost use Rattle.walks.specs.Sense.{Within};
 ghost use Prim.Native.Nat.{_+_};
 use crate::clearance::Clearance;
+use crate::clearance::clear;
 use crate::fault::CheckFault;
 use crate::fault::CheckFromForm;
 use crate::fault::CheckFromTyping;
@@ -44,16 +45,6 @@ fn check<S: Scheme>(
     let n = counts.terms as usize;
     let found = walk(scheme, system, counts.types, types, &terms[0..n])?;
     Ok(bound(scheme, types[found as usize]))
-}
-
-// An accepted sufficient check is a clearance; nothing else makes one.
-fn clear(answer: Result<u64, CheckFault>) -> Result<Clearance, CheckFault>
-    ensures { λ r. ⌜ r ≡ cleared answer ⌝ }
-{
-    match answer {
-        Ok(bound) => Ok(Clearance { bound }),
-        Err(fault) => Err(fault),
-    }
 }
 
 /// The sufficient check of a job of so many types and terms in two lent tables. An accepted job is cleared at its bound.

@@ -1,9 +1,11 @@
 //! What an accepted sufficient check gives.
 ghost use mathlib.Core.Path.{_≡_};
+ghost use Rattle.checks.specs.Checking.{cleared};
+use crate::fault::CheckFault;
 
 /// A job's sufficient bound, as a check has found it. It is made by an accepted sufficient check alone, and cannot be copied: one check clears one start.
 pub struct Clearance {
-    pub(crate) bound: u64,
+    bound: u64,
 }
 
 impl Clearance {
@@ -20,5 +22,15 @@ impl Clearance {
     {
         let Clearance { bound } = self;
         bound
+    }
+}
+
+/// The clearance of an accepted sufficient check; nothing else makes one.
+pub(crate) fn clear(answer: Result<u64, CheckFault>) -> Result<Clearance, CheckFault>
+    ensures { λ r. ⌜ r ≡ cleared answer ⌝ }
+{
+    match answer {
+        Ok(bound) => Ok(Clearance { bound }),
+        Err(fault) => Err(fault),
     }
 }
