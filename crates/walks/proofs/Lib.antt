@@ -1,0 +1,9 @@
+pub mod Placing
+pub mod Sums
+pub mod Onces
+pub mod TypeTrees
+pub mod Unfolding
+pub mod Accepting
+pub mod Goods
+pub mod Links
+pub mod Linking
