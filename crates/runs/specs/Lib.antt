@@ -1,0 +1,4 @@
+pub mod Reach
+pub mod Copy
+pub mod Find
+pub mod Table
