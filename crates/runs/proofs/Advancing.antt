@@ -75,26 +75,3 @@ added-more i a = let e : i + suc (a .made) ≡ (i + 1) + a .made = omega arith i
 
 pub added-none : (i : ℕ) (a : Advanced) → a .made ≡ 0 → added-to i a ≡ record { made = i; state = a .state; condition = a .condition }
 added-none i a h = let e : i + a .made ≡ i = omega arith in ap (λ (n : ℕ). record { made = n; state = a .state; condition = a .condition }) e
-
-module _ (m : Meaning) (r cap b i : ℕ) (es fs : List Entry) (u c : ℕ) (X : Advanced) (low : u ≤ length es) (full : length es ≡ cap)
-    (inv : X ≡ added-to i (advance m r cap (b - i) (state es u c))) where
-  one-further : i < b → X ≡ added-to i (advance m r (length es) (suc (b - (i + 1))) (state es u c))
-  one-further l =
-      let e : b - i ≡ suc (b - (i + 1)) = omega arith in
-      inv ∙ (ap (λ (j : ℕ). added-to i (advance m r cap j (state es u c))) e ∙ ap (λ (k : ℕ). added-to i (advance m r k (suc (b - (i + 1))) (state es u c))) (sym full))
-
-  pub turn-more : i < b → (k n : ℕ) → Turn-is m r es fs u c (Moves k n) → X ≡ added-to (i + 1) (advance m r cap (b - (i + 1)) (state fs n k))
-  turn-more l k n T =
-      one-further l
-      ∙ (ap (added-to i) (moves-on m r es fs u c low (b - (i + 1)) k n T)
-      ∙ (added-more i (advance m r (length es) (b - (i + 1)) (state fs n k)) ∙ ap (λ (j : ℕ). added-to (i + 1) (advance m r j (b - (i + 1)) (state fs n k))) full))
-
-  pub turn-last : i < b → (t : Turned) → ((k n : ℕ) → t ≡ Moves k n → ⊥) → Turn-is m r es fs u c t → X ≡ advanced fs i u c (ended-of t)
-  turn-last l t no-move T =
-      one-further l ∙ (ap (added-to i) (ends m r es fs u c low (b - (i + 1)) t no-move T) ∙ added-none i (advanced fs 0 u c (ended-of t)) refl)
-
-  pub turn-idle : i ≡ b → (F : Found) → step m r (tree (take u es) c) ≡ met-of (take u es) c F → X ≡ advanced es b u c (idle-of F)
-  turn-idle q F S =
-      let e : b - i ≡ 0 = omega arith in
-      inv ∙ (ap (λ (j : ℕ). added-to i (advance m r cap j (state es u c))) e
-      ∙ (ap (added-to i) (idles m r es fs u c low cap F S) ∙ (added-none i (advanced es 0 u c (idle-of F)) refl ∙ ap (λ (j : ℕ). advanced es j u c (idle-of F)) q)))

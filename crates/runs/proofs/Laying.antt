@@ -60,3 +60,10 @@ put es es₁ u e i j n xs v q room t same at =
       at ∙ sym (ap (λ z. z .place) q),
       omega arith,
     )
+
+-- beyond what is written the table is as it was
+pub drop-laid : (es : List Entry) (u : ℕ) (new : List Entry) → u ≤ length es → drop (u + length new) (laid es u new) ≡ drop (u + length new) es
+drop-laid es u new h =
+    let t : List Entry = take u es in
+    let n : length (t ++ new) ≡ u + length new = length-append t new ∙ ap (λ k. k + length new) (length-take-le u es h) in
+    ap (drop (u + length new)) (sym (append-assoc t new (drop (u + length new) es))) ∙ drop-at (t ++ new) (drop (u + length new) es) (u + length new) n

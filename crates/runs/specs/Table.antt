@@ -1,7 +1,7 @@
 -- Turns at the table, where it has room for them. Assumes nothing.
 use mathlib.Core.Path.{_≡_}
 use mathlib.Core.List.{List}
-use mathlib.Core.Bool.{true}
+use mathlib.Core.Bool.{Bool, true, false}
 use Prim.Native.Nat.{ℕ, _+_, _<_, _≤_}
 use lib.ListN.{length, take}
 use Rattle.roles.specs.Meaning.{Meaning}
@@ -64,3 +64,11 @@ idle-of Ready = Finished
 idle-of (Redex a n) = Going
 idle-of (Refused i a r) = RoleFault i a r
 idle-of (Misfit i) = ShapeFault i
+
+-- Was a step made?
+abbrev pub is-move : Turned → Bool
+is-move Rests = false
+is-move (Moves k n) = true
+is-move (Refuses i a r) = false
+is-move (Misfits i) = false
+is-move Full = false

@@ -8,6 +8,8 @@ ghost use Rattle.machine.specs.Labelled.{closed, tree};
 ghost use Rattle.machine.specs.Plans.{step};
 ghost use Rattle.runs.specs.Find.{Found-fits, found-here, is-ready, met-of, one-out, path-of, role-within, value-tag};
 ghost use Rattle.runs.specs.Reach.{Ground, no-entry};
+ghost use Rattle.runs.specs.Table.{idle-of};
+use machine::condition::Condition;
 use roles::scheme::Scheme;
 use tables::entry::Entry;
 use tables::operand::ABSTRACTION;
@@ -147,5 +149,21 @@ pub(crate) fn find<S: Scheme>(
     match inner_role(scheme, context, e) {
         None => Found::Misfit { at },
         Some(inner) => outward(find(scheme, inner, terms, base, e.first)),
+    }
+}
+
+/// The condition where no budget is left.
+pub(crate) fn idle_by(found: Found) -> Condition
+    ensures { λ r. ⌜ r ≡ idle-of found ⌝ }
+{
+    match found {
+        Found::Ready => Condition::Finished,
+        Found::Redex { .. } => Condition::Going,
+        Found::Refused { at, guard, context } => Condition::RoleFault {
+            check: at,
+            guard,
+            context,
+        },
+        Found::Misfit { at } => Condition::ShapeFault { entry: at },
     }
 }

@@ -9,7 +9,7 @@ ghost use Rattle.machine.specs.Plans.{write};
 ghost use Rattle.runs.specs.Copy.{laid, places};
 ghost use Rattle.runs.specs.Find.{Act-fits, Path-fits, act-plan, along};
 ghost use Rattle.runs.specs.Reach.{Ground, Known};
-ghost use Rattle.runs.specs.Table.{Live, Live-after, Turn-is};
+ghost use Rattle.runs.specs.Table.{Live, Live-after, Turn-is, ended-of, is-move};
 use crate::copy::Copied;
 use crate::copy::copy_on;
 use crate::copy::count_on;
@@ -18,6 +18,7 @@ use crate::find::Act;
 use crate::find::Found;
 use crate::find::find;
 use crate::reach::fill;
+use machine::condition::Condition;
 use roles::scheme::Scheme;
 use tables::entry::Entry;
 use tables::operand::UNIT;
@@ -30,6 +31,18 @@ pub(crate) enum Turned {
     Refuses { at: u32, guard: u64, context: u64 },
     Misfits { at: u32 },
     Full,
+}
+
+impl Turned {
+    /// Was a step made?
+    pub(crate) fn moved(self) -> bool
+        ensures { λ r. ⌜ r ≡ is-move self ⌝ }
+    {
+        match self {
+            Turned::Moves { .. } => true,
+            _ => false,
+        }
+    }
 }
 
 // Does what an act says, from place `used` on.
@@ -166,5 +179,22 @@ pub(crate) fn turn_live<S: Scheme>(
             }
         }
         other => other,
+    }
+}
+
+/// The condition after a turn.
+pub(crate) fn ended_by(turned: Turned) -> Condition
+    ensures { λ r. ⌜ r ≡ ended-of turned ⌝ }
+{
+    match turned {
+        Turned::Rests => Condition::Finished,
+        Turned::Moves { .. } => Condition::Going,
+        Turned::Refuses { at, guard, context } => Condition::RoleFault {
+            check: at,
+            guard,
+            context,
+        },
+        Turned::Misfits { at } => Condition::ShapeFault { entry: at },
+        Turned::Full => Condition::TableFull,
     }
 }
