@@ -6,3 +6,4 @@ pub mod Keeping
 pub mod Closing
 pub mod Walking
 pub mod Agreeing
+pub mod Refusing

@@ -9,7 +9,10 @@ use Rattle.std.specs.declared.option.Option.the-variants.{None}
 use Rattle.roles.specs.Meaning.{Meaning, Lawful}
 use Rattle.calculus.specs.Syntax.{Ty}
 use Rattle.tables.specs.declared.entry.Entry.{Entry}
-use Rattle.machine.specs.Labelled.{Head, none, leafs, ones, twos, head, Tree, stray, leaf, one, two, tree, closed}
+use Rattle.machine.specs.Labelled.{Head, none, leafs, ones, twos, head, Tree, stray, leaf, one, two, tree, closed, erase}
+use Rattle.calculus.specs.Steps.{Role-fault}
+use Rattle.machine.specs.Plans.{refused, step}
+use Rattle.machine.specs.Refused.{Refused-at}
 use Rattle.machine.specs.Turns.{State, turn, moves, moved, once, advance, Agrees, added-to}
 
 -- A tree stays as entries are appended.
@@ -62,3 +65,9 @@ Advances-join =
 -- An advance spends its budget, or stops where no further step fits.
 abbrev pub Advances-spend : Type 0
 Advances-spend = (m : Meaning) (r places k : ℕ) (s : State) → (advance m r places k s .made ≡ k) ⊎ (once m r places (advance m r places k s .state) ≡ None)
+
+-- A role fault that a step meets is at the check, the guard's role and the context role that it tells, and it is one of the calculus.
+abbrev pub Refusals-told : Type 0
+Refusals-told =
+    (m : Meaning) (r : ℕ) (t : Tree) (i a c : ℕ) →
+    (step m r t ≡ refused i a c → Refused-at m r t i a c) × ((claim : ℕ → Ty) → Refused-at m r t i a c → Role-fault m r (erase claim t))

@@ -1,5 +1,5 @@
 //! The theorems about turns and advances.
-ghost use Rattle.machine.specs.Theorems.{Advances-join, Advances-spend, Trees-stay, Trees-unfold, Turns-agree, Turns-close, Turns-grow};
+ghost use Rattle.machine.specs.Theorems.{Advances-join, Advances-spend, Refusals-told, Trees-stay, Trees-unfold, Turns-agree, Turns-close, Turns-grow};
 
 /// Entries that are appended leave the trees of those before them as they were.
 pub fn trees_stay()
@@ -34,4 +34,9 @@ pub fn advances_join()
 /// An advance spends its budget, or stops where no further step fits.
 pub fn advances_spend()
     ensures { λ _. ⌜ Advances-spend ⌝ }
+{}
+
+/// A role fault is told with the check, the guard's role and the context role that it is at.
+pub fn refusals_told()
+    ensures { λ _. ⌜ Refusals-told ⌝ }
 {}

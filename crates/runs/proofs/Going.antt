@@ -20,6 +20,7 @@ use Rattle.runs.specs.declared.turn.Turned.the-variants.{Rests, Moves, Refuses
 use Rattle.runs.specs.declared.run.Run.{Run}
 use Rattle.runs.specs.Copy.{laid}
 use Rattle.runs.specs.Find.{met-of}
+use Rattle.runs.specs.Reach.{Ground}
 use Rattle.runs.specs.Table.{Turn-is, Live, Live-after, state, advanced, ended-of, idle-of, is-move}
 use Rattle.runs.specs.Run.{gone, moving, taken}
 use Rattle.runs.specs.Went.{Went}
@@ -91,6 +92,9 @@ module _ (m : Meaning) (b i : ℕ) (x y : Run) (es fs : List Entry) (rs : List �
           steps = ap (λ (w : Run). w .steps) q ∙ K .steps;
           low = subst (λ (n : ℕ). n ≤ length gs) (sym u) (subst (λ (w : List Entry). y .used ≤ length w) (sym keep) (K .live .low));
           rest = ap (λ (n : ℕ). drop n gs) u ∙ (ap (drop (y .used)) keep ∙ (K .rest ∙ ap (λ (n : ℕ). drop n es) (sym u)));
+          same = ap length keep ∙ K .same;
+          ground = subst (λ (n : ℕ). Ground (take n gs)) (sym u) (subst (λ (w : List Entry). Ground (take (y .used) w)) (sym keep) (K .live .ground));
+          present = omega (arith, u, c, K .live .present);
         }
 
   -- a turn after which the loop goes on
@@ -142,4 +146,7 @@ module _ (m : Meaning) (b i : ℕ) (x y : Run) (es fs : List Entry) (rs : List �
         steps = K .steps ∙ ap (λ (j : ℕ). x .steps + j) q;
         low = K .live .low;
         rest = K .rest;
+        same = K .same;
+        ground = K .live .ground;
+        present = K .live .present;
       }

@@ -6,3 +6,4 @@ pub mod Usable
 pub mod Refusals
 pub mod Run
 pub mod Went
+pub mod Meant
