@@ -26,17 +26,17 @@ use Rattle.runs.specs.Table.{Turn-is, Live}
 use Rattle.runs.specs.declared.turn.Turned.the-variants.{Moves}
 use Rattle.runs.proofs.Laying.{laid-take}
 
-abbrev Low-plan : ℕ → Plan → Type 0
+abbrev pub Low-plan : ℕ → Plan → Type 0
 Low-plan n (old t) = label t < n
 Low-plan n (new-one h p) = Low-plan n p
 Low-plan n (new-two h p q) = Low-plan n p × Low-plan n q
 
-low-up : (n m : ℕ) (p : Plan) → n ≤ m → Low-plan n p → Low-plan m p
+pub low-up : (n m : ℕ) (p : Plan) → n ≤ m → Low-plan n p → Low-plan m p
 low-up n m (old t) h l = omega arith
 low-up n m (new-one x p) h l = low-up n m p h l
 low-up n m (new-two x p q) h l = (low-up n m p h (l .0), low-up n m q h (l .1))
 
-snoc-all : (P : ℕ → Entry → Type 0) (vs : List Entry) (x : Entry) → ((k : ℕ) → k < length vs → P k (getD vs k no-entry)) → P (length vs) x → (k : ℕ) → k < length (vs ++ (x ∷ [])) → P k (getD (vs ++ (x ∷ [])) k no-entry)
+pub snoc-all : (P : ℕ → Entry → Type 0) (vs : List Entry) (x : Entry) → ((k : ℕ) → k < length vs → P k (getD vs k no-entry)) → P (length vs) x → (k : ℕ) → k < length (vs ++ (x ∷ [])) → P k (getD (vs ++ (x ∷ [])) k no-entry)
 snoc-all P vs x below here k l =
     let n = length-push vs x in
     ⊎-elim
@@ -111,7 +111,7 @@ held-there acc (leaf i x) h = tt
 held-there acc (one i x t) h = tt
 held-there acc (two i x t u) h = tt
 
-held-low : (acc : List Tree) (p : Plan) → Held-plan acc p → Low-plan (length acc) p
+pub held-low : (acc : List Tree) (p : Plan) → Held-plan acc p → Low-plan (length acc) p
 held-low acc (old t) h = in-range acc (label t) t (held-there acc t h) (held-at acc t h)
 held-low acc (new-one x p) h = held-low acc p h
 held-low acc (new-two x p q) h = (held-low acc p (h .0), held-low acc q (h .1))
