@@ -52,7 +52,7 @@ fn is_type(tag: u8) -> bool
 }
 
 /// Is it the tag of a term?
-fn is_term(tag: u8) -> bool
+pub fn is_term(tag: u8) -> bool
     ensures { λ r. ⌜ r ≡ term-tag tag ⌝ }
 {
     tag >= VALUE && tag <= RESTRICT
@@ -101,8 +101,8 @@ fn one_fits(e: Entry, i: u32) -> bool
     e.first < i && e.second == 0 && (has_role(e.tag) || e.third == 0)
 }
 
-// Are the operands of term `i`, in a job of `t` types, as its tag asks?
-fn term_fits(e: Entry, i: u32, t: u32) -> bool
+/// Are the operands of term `i`, in a job of `t` types, as its tag asks?
+pub fn term_fits(e: Entry, i: u32, t: u32) -> bool
     ensures { λ r. ⌜ r ≡ term-operands e i t ⌝ }
 {
     match e.tag {
@@ -114,8 +114,8 @@ fn term_fits(e: Entry, i: u32, t: u32) -> bool
     }
 }
 
-// If the entry has a role code, is it a role?
-fn role_is<S: Scheme>(scheme: &S, e: Entry) -> bool
+/// If the entry has a role code, is it a role?
+pub fn role_is<S: Scheme>(scheme: &S, e: Entry) -> bool
     ensures { λ r. ⌜ r ≡ role-fits (meaning (now (scheme .entry)) .role) e ⌝ }
 {
     !has_role(e.tag) || scheme.is_role(e.third)
