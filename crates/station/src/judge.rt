@@ -1,6 +1,7 @@
 //! The verdict on an input.
 ghost use mathlib.Core.Path.{_≡_};
 ghost use Rattle.checks.specs.Sense.{plain};
+ghost use Rattle.station.specs.Sense.{Image-means, Input-means};
 ghost use Rattle.station.specs.Verdicts.{checked-both, image-verdict, of-check, refused, verdict-bytes, verdict-on};
 use crate::refusal::Refusal;
 use crate::verdict::Verdict;
@@ -69,8 +70,8 @@ fn check_both<S: Scheme>(
     }
 }
 
-/// The verdict on an image under a scheme.
-pub fn judge_image<S: Scheme>(scheme: &S, image: &[u8]) -> Verdict
+// Reads the image into tables of our own, and checks what was read.
+fn read_and_check<S: Scheme>(scheme: &S, image: &[u8]) -> Verdict
     ensures { λ r. ⌜ r ≡ image-verdict (meaning (now (scheme .entry))) (now (image .entry)) ⌝ }
 {
     let mut types = [NO_ENTRY; 1536];
@@ -81,9 +82,18 @@ pub fn judge_image<S: Scheme>(scheme: &S, image: &[u8]) -> Verdict
     }
 }
 
+/// The verdict on an image under a scheme.
+pub fn judge_image<S: Scheme>(scheme: &S, image: &[u8]) -> Verdict
+    ensures exact { λ r. ⌜ r ≡ image-verdict (meaning (now (scheme .entry))) (now (image .entry)) ⌝ }
+    ensures sense { λ r. ⌜ Image-means (meaning (now (scheme .entry))) (now (image .entry)) r ⌝ }
+{
+    read_and_check(scheme, image)
+}
+
 /// The verdict on an input, a scheme block and then an image.
 pub fn verdict(input: &[u8]) -> Verdict
-    ensures { λ r. ⌜ r ≡ verdict-on (now (input .entry)) ⌝ }
+    ensures exact { λ r. ⌜ r ≡ verdict-on (now (input .entry)) ⌝ }
+    ensures sense { λ r. ⌜ Input-means (now (input .entry)) r ⌝ }
 {
     match read_block(input) {
         Ok((block, image)) => judge_image(&block, image),
@@ -93,7 +103,8 @@ pub fn verdict(input: &[u8]) -> Verdict
 
 /// The 24 bytes of the verdict on an input.
 pub fn judge(input: &[u8]) -> [u8; 24]
-    ensures { λ r. ⌜ r ≡ verdict-bytes (verdict-on (now (input .entry))) ⌝ }
+    ensures bytes { λ r. ⌜ r ≡ verdict-bytes (verdict-on (now (input .entry))) ⌝ }
+    ensures sense { λ _. ⌜ Input-means (now (input .entry)) (verdict-on (now (input .entry))) ⌝ }
 {
     verdict(input).bytes()
 }

@@ -1,9 +1,10 @@
-use mathlib.Core.Path.{_≡_, ap, ap₂, _∙_}
-use Rattle.station.specs.Verdicts.{checked-both, after-reading}
+use mathlib.Core.Path.{_≡_, sym, subst}
+use Rattle.station.specs.Sense.{Image-means}
+use Rattle.station.proofs.Senses.{image-means}
 use Rattle.station.proofs.judge.judge_image.Needs as need
 
-pub returns-in-Ok : need.returns-in-Ok
-returns-in-Ok g c =
-    c .check-both .ensures
-    ∙ (ap₂ (checked-both (g .S·Scheme .meaning (c .args .scheme .now)) (c .in-Ok .counts .types) (c .in-Ok .counts .terms)) (c .in-Ok .ensures tt .types) (c .in-Ok .ensures tt .terms)
-    ∙ ap (after-reading (g .S·Scheme .meaning (c .args .scheme .now)) (c .args .image .now)) (c .in-Ok .ensures tt .answer))
+pub returns : need.returns
+returns g c = record {
+  exact = c .read-and-check .ensures;
+  sense = subst (Image-means (g .S·Scheme .meaning (c .args .scheme .now)) (c .args .image .now)) (sym (c .read-and-check .ensures)) (image-means (g .S·Scheme .meaning (c .args .scheme .now)) (g .S·Scheme·met .lawful (c .args .scheme .now)) (c .args .image .now));
+}
