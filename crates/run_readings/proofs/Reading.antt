@@ -39,6 +39,7 @@ runs = record {
   restrict-faults = restrict-faults;
   fix-turns = refl;
   fix-run = refl;
+  misapplied-starts = refl;
   wrong-shape = refl;
 }
 

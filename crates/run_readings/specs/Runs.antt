@@ -12,7 +12,7 @@ use Rattle.machine.specs.declared.condition.Condition.the-variants.{Going, Fini
 use Rattle.runs.specs.declared.fault.RunFault.{RunFault}
 use Rattle.runs.specs.declared.run.Run.{Run}
 use Rattle.runs.specs.declared.run.Progress.{Progress}
-use Rattle.runs.specs.Run.{begun, refusal, gone, answered}
+use Rattle.runs.specs.Run.{begun, start-asked, started, refusal, gone, answered}
 use Rattle.run_laws.specs.Laws.{left-run, left-terms}
 use Rattle.readings.specs.Bounds.{mask-8, Readings}
 
@@ -65,7 +65,8 @@ pub record Run-readings : Type 0 where
   -- fix of the identity: a budget of 5 makes 5 steps and no entries
   pub fix-turns : answer 3 0 turning 5 ≡ Ok (record { made = 5; condition = Going })
   pub fix-run : run 3 0 turning 5 ≡ record { role = 0; steps = 5; used = 3; current = 2; condition = Going }
-  -- unit unit: a shape fault at 0 steps
+  -- unit unit: a rehearsal of it starts, and meets a shape fault at 0 steps
+  pub misapplied-starts : started (start-asked mask-8 (record { types = 0; terms = 3 }) (no-entry ∷ no-entry ∷ no-entry ∷ []) misapplied 0) 3 0 ≡ Ok (begun 3 0)
   pub wrong-shape : answer 3 0 misapplied 5 ≡ Ok (record { made = 0; condition = ShapeFault 2 })
 
 -- All readings.

@@ -139,7 +139,7 @@ pub(crate) fn count_on(
     if limit == 0 {
         return 0;
     }
-    if reach[at as usize] as u32 <= depth {
+    if depth >= reach[at as usize] as u32 {
         return 0;
     }
     let e = terms[at as usize];

@@ -169,6 +169,9 @@ impl Run {
                 self.used = used;
                 self.condition = Condition::Going;
             }
+            (Condition::Going | Condition::TableFull, Turned::Full) => {
+                self.condition = Condition::TableFull;
+            }
             (Condition::Going | Condition::TableFull, other) => self.condition = ended_by(other),
             _ => {}
         }

@@ -16,15 +16,15 @@ first-le t d = grind (arith, tells)
 second-le : (t d : ℕ) → second-within t d ≤ d + 1
 second-le t d = grind (arith, tells)
 
-pub returns-then-reach-at : need.returns-then-reach-at
-returns-then-reach-at t c =
-    let s = none-shared (c .args .terms .now) (c .args .reach .now) (c .args .base) (c .args .depth) (c .args .with) (c .args .at) (c .pre .form .0) (c .pre .form .1 .0) (c .if-reach-at .taken) in
+pub returns-then-depth-reach : need.returns-then-depth-reach
+returns-then-depth-reach t c =
+    let s = none-shared (c .args .terms .now) (c .args .reach .now) (c .args .base) (c .args .depth) (c .args .with) (c .args .at) (c .pre .form .0) (c .pre .form .1 .0) (c .if-depth-reach .taken) in
     omega arith
 
 pub returns-then-n-eq0 : need.returns-then-n-eq0
 returns-then-n-eq0 t c =
     let s = none-leaf (c .args .terms .now) (c .args .reach .now) (c .args .base) (c .args .depth) (c .args .with) (c .args .at) (c .pre .form .0) (c .pre .form .1 .0)
-    (c .if-reach-at .left) (sym (c .named-terms-n .ensures) ∙ c .if-n-eq0 .taken) in
+    (c .if-depth-reach .left) (sym (c .named-terms-n .ensures) ∙ c .if-n-eq0 .taken) in
     omega arith
 
 pub count-on-a-requires : need.count-on-a-requires
@@ -40,7 +40,7 @@ count-on-a-requires t c κs =
 pub returns-then-n-eq1 : need.returns-then-n-eq1
 returns-then-n-eq1 t c =
     let s = count-one (c .args .terms .now) (c .args .reach .now) (c .args .base) (c .args .depth) (c .args .with) (c .args .at) (c .pre .form .0) (c .pre .form .1 .0)
-    (c .depth-first .result) (c .if-reach-at .left) (sym (c .named-terms-n .ensures) ∙ c .if-n-eq1 .taken) (c .depth-first .ensures) in
+    (c .depth-first .result) (c .if-depth-reach .left) (sym (c .named-terms-n .ensures) ∙ c .if-n-eq1 .taken) (c .depth-first .ensures) in
     omega arith
 
 pub count-on-b-requires : need.count-on-b-requires
@@ -63,5 +63,5 @@ returns t c =
     let o : names (e .tag) ≡ 2 = both es rs (c .args .base) (c .args .depth) (c .args .with) (c .args .at) (c .pre .form .0) (c .pre .form .1 .0)
     (λ q. c .if-n-eq0 .left (c .named-terms-n .ensures ∙ q)) (λ q. c .if-n-eq1 .left (c .named-terms-n .ensures ∙ q)) in
     let s = count-two es rs (c .args .base) (c .args .depth) (c .args .with) (c .args .at) (c .pre .form .0) (c .pre .form .1 .0)
-    (c .depth-first .result) (c .depth-second .result) (c .if-reach-at .left) o (c .depth-first .ensures) (c .depth-second .ensures) in
+    (c .depth-first .result) (c .depth-second .result) (c .if-depth-reach .left) o (c .depth-first .ensures) (c .depth-second .ensures) in
     omega arith
