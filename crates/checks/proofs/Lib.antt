@@ -5,3 +5,4 @@ pub mod Depths
 pub mod Walks
 pub mod Stack
 pub mod Meaning
+pub mod Repeating

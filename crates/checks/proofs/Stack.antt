@@ -258,7 +258,7 @@ module _ (m : Meaning) (L : Lawful m) (α : System) (t : ℕ) (T₀ es : List En
     x-root : x < root + 1
     x-root = omega (arith, x-low, f-low)
 
-    room : top < length fs
+    pub room : top < length fs
     room = omega (arith, f .frames, x-low, f-low)
 
     room-b : F .depth < length bs
@@ -456,3 +456,14 @@ module _ (m : Meaning) (L : Lawful m) (α : System) (t : ℕ) (T₀ es : List En
       owed = owed′;
       bound = bound′;
     }
+
+    -- the frames as they are made
+    module _ (A B : Frame) (ae : A ≡ F₁) (be : B ≡ G) where
+      pub pushed-sum : (p : ℕ) → p + pend-sum m α t es p (set (set fs j A) top B) (top + 1) ≡ pend-sum m α t es p fs top
+      pushed-sum p = ap₂ (λ (a b : Frame). p + pend-sum m α t es p (set (set fs j a) top b) (top + 1)) ae be ∙ push-sum p
+
+      pub pushed-pend : pend m α t es (set (set fs j A) top B) bs′ (top + 1) (going T u v) ≡ pend m α t es fs bs top (going T u v)
+      pushed-pend = ap₂ (λ (a b : Frame). pend m α t es (set (set fs j a) top b) bs′ (top + 1) (going T u v)) ae be ∙ push-pend
+
+      pub pushed-fits : Fits m t root es T u v (set (set fs j A) top B) bs′ (top + 1)
+      pushed-fits = subst₂ (λ (a b : Frame). Fits m t root es T u v (set (set fs j a) top b) bs′ (top + 1)) (sym ae) (sym be) push-fits

@@ -8,6 +8,7 @@ use Rattle.calculus.specs.Subtyping.{System}
 use Rattle.tables.specs.declared.entry.Entry.{Entry}
 use Rattle.tables.specs.Entries.{at}
 use Rattle.walks.specs.Rules.{claim-of}
+use Rattle.checks.specs.declared.walk.Frame.{Frame}
 
 -- Is operand s walked, where the operand before it has the type v? The second of a let only if the first is a computation.
 abbrev pub enters-of : List Entry → Entry → ℕ → ℕ → Bool
@@ -29,3 +30,11 @@ deeper-of e s d = cond (binds-of e s) (d + 1) d
 abbrev pub env : List ℕ → ℕ → List ℕ
 env bs zero = []
 env bs (suc d) = getD bs d 0 ∷ env bs d
+
+-- A term of which no operand is walked.
+abbrev pub opened : ℕ → ℕ → Frame
+opened k d = record { number = k; stage = 0; first = 0; depth = d }
+
+-- The term with one more operand entered, where v was found before it.
+abbrev pub advanced : Frame → ℕ → Frame
+advanced f v = record { number = f .number; stage = f .stage + 1; first = v; depth = f .depth }

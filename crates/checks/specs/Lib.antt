@@ -5,3 +5,4 @@ pub mod Frames
 pub mod Faults
 pub mod Checking
 pub mod Sense
+pub mod Again

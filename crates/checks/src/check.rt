@@ -1,6 +1,7 @@
 //! The two checks.
 ghost use mathlib.Core.Path.{_≡_};
 ghost use Rattle.calculus.specs.Subtyping.{sufficient, necessary};
+ghost use Rattle.checks.specs.Again.{Answers-again, Answers-by-job};
 ghost use Rattle.checks.specs.Checking.{bound-in, check-of, cleared};
 ghost use Rattle.checks.specs.Sense.{job-term, plain, Says};
 ghost use Rattle.checks.specs.Systems.{meant};
@@ -78,3 +79,13 @@ pub fn check_necessary<S: Scheme>(
 {
     check(scheme, System::Necessary, counts, types, terms)
 }
+
+/// A check answers by the job alone, whatever stands in the table of types from place `counts.types` up.
+pub fn answers_by_job()
+    ensures { λ _. ⌜ Answers-by-job ⌝ }
+{}
+
+/// A check after a check, of either system, answers what it would have answered before.
+pub fn answers_again()
+    ensures { λ _. ⌜ Answers-again ⌝ }
+{}

@@ -6,7 +6,7 @@ ghost use lib.ListN.{length};
 ghost use Rattle.std.specs.declared.result.Result.the-variants.{Ok};
 ghost use Rattle.walks.specs.Places.{operand-of, Walkable};
 ghost use Rattle.walks.specs.Walk.{walk-of, told, table-of};
-ghost use Rattle.checks.specs.Frames.{binder-of, binds-of, deeper-of, enters-of, env};
+ghost use Rattle.checks.specs.Frames.{advanced, opened, binder-of, binds-of, deeper-of, enters-of, env};
 ghost use Rattle.checks.specs.Judge.{bound-of};
 ghost use Rattle.checks.specs.Systems.{meant};
 use crate::judge::claim;
@@ -88,6 +88,38 @@ fn binder(system: System, types: &[Entry], e: Entry, stage: u8, last: u32) -> u3
     }
 }
 
+// A term of which no operand is walked.
+fn open(number: u32, depth: u32) -> Frame
+    ensures { λ r. ⌜ r ≡ opened number depth ⌝ }
+{
+    Frame {
+        number,
+        stage: 0,
+        first: 0,
+        depth,
+    }
+}
+
+// The operand that is entered next.
+fn enter(e: Entry, frame: Frame) -> Frame
+    requires { ⌜ frame .depth < 1024 ⌝ }
+    ensures { λ r. ⌜ r ≡ opened (operand-of e (frame .stage)) (deeper-of e (frame .stage) (frame .depth)) ⌝ }
+{
+    open(operand(e, frame.stage), deeper(e, frame.stage, frame.depth))
+}
+
+// The term with one more operand entered, where `last` was found before it.
+fn next(frame: Frame, last: u32) -> Frame
+    requires { ⌜ frame .stage < 2 ⌝ }
+    ensures { λ r. ⌜ r ≡ advanced frame last ⌝ }
+{
+    Frame {
+        stage: frame.stage + 1,
+        first: last,
+        ..frame
+    }
+}
+
 /// Finds the type of the last term and of each below it. Types are appended from place `t` up.
 pub(crate) fn walk<S: Scheme>(
     scheme: &S,
@@ -102,56 +134,28 @@ pub(crate) fn walk<S: Scheme>(
     ensures there { λ r. ⌜ ((x : ℕ) → r ≡ Ok x → x < length (now (types .exit))) ⌝ }
 {
     let root = terms.len() as u32 - 1;
-    let mut frames = [Frame {
-        number: root,
-        stage: 0,
-        first: 0,
-        depth: 0,
-    }; 1024];
+    let mut frames = [open(root, 0); 1024];
     let mut binders = [0u32; 1024];
     let mut top: usize = 1;
     let mut used = t;
     let mut last: u32 = 0;
     while top > 0 {
         let f = top - 1;
-        let Frame {
-            number,
-            stage,
-            first,
-            depth,
-        } = frames[f];
-        let e = terms[number as usize];
-        if stage < named_terms(e.tag) {
-            if !enters(types, e, stage, last) {
-                return Err(TypingFault::NoComputation { place: t + number });
+        let frame = frames[f];
+        let e = terms[frame.number as usize];
+        let place = t + frame.number;
+        if frame.stage < named_terms(e.tag) {
+            if !enters(types, e, frame.stage, last) {
+                return Err(TypingFault::NoComputation { place });
             }
-            binders[depth as usize] = binder(system, types, e, stage, last);
-            frames[f] = Frame {
-                number,
-                stage: stage + 1,
-                first: last,
-                depth,
-            };
-            frames[top] = Frame {
-                number: operand(e, stage),
-                stage: 0,
-                first: 0,
-                depth: deeper(e, stage, depth),
-            };
+            binders[frame.depth as usize] = binder(system, types, e, frame.stage, last);
+            frames[f] = next(frame, last);
+            frames[top] = enter(e, frame);
             top += 1;
         } else {
-            let bound = lookup(&binders, depth, e);
-            match judge(
-                scheme,
-                system,
-                t + number,
-                types,
-                used,
-                e,
-                first,
-                last,
-                bound,
-            ) {
+            let bound = lookup(&binders, frame.depth, e);
+            let first = frame.first;
+            match judge(scheme, system, place, types, used, e, first, last, bound) {
                 Finding::Refused(fault) => {
                     return Err(fault);
                 }

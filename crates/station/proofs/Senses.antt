@@ -25,17 +25,10 @@ use Rattle.checks.specs.declared.fault.CheckFault.the-variants.{Form, Typing}
 use Rattle.checks.specs.Checking.{Checked, check-of}
 use Rattle.checks.specs.Sense.{job-term, Says}
 use Rattle.checks.proofs.Meaning.{Meant, check-meant}
+use Rattle.checks.proofs.Repeating.{front-kept}
 use Rattle.station.specs.declared.verdict.Verdict.{Verdict}
 use Rattle.station.specs.Sense.{term-in, image-term, Answer-means, Image-means}
 use Rattle.station.specs.Verdicts.{of-check, checked-both, types-blank, terms-blank, after-reading, image-verdict}
-
--- the first places of a table that was written to from place t up
-front : (t b : ℕ) (T T′ : List Entry) → Within t b T T′ → (k : ℕ) → k ≤ t → k ≤ length T → take k T′ ≡ take k T
-front t b T T′ w zero h l = refl
-front t b T T′ w (suc k) h l =
-    ap (λ (z : ℕ). take z T′) (sym (add-one k))
-    ∙ (take-more-same T′ T k no-entry (omega (arith, w .long)) (omega arith) (front t b T T′ w k (omega arith) (omega arith)) (w .before k (omega arith))
-    ∙ ap (λ (z : ℕ). take z T) (add-one k))
 
 says-means : (m : Meaning) (α : System) (e : Term) (a : Result ℕ CheckFault) → Says m α e a → Answer-means m α e (of-check a)
 says-means m α e (Ok b) s = s
@@ -46,12 +39,12 @@ length-entries : (tags operands : List ℕ) (n k : ℕ) → length (map (entry-a
 length-entries tags operands zero k = refl
 length-entries tags operands (suc n) k = ap suc (length-entries tags operands n (k + 1))
 
-module _ (m : Meaning) (L : Lawful m) (t n : ℕ) (T M : List Entry) (e : Term) (is : job-term t n T M ≡ e) (long : t ≤ length T) where
+module _ (m : Meaning) (L : Lawful m) (t n : ℕ) (T M : List Entry) (e : Term) (is : job-term t n T M ≡ e) where
   abbrev after : List Entry
   after = check-of m sufficient t n T M .table
 
   kept : job-term t n after M ≡ e
-  kept = ap (λ (z : List Entry). term-of z (take n M) (n - 1)) (front t (t + n) T after (check-meant m L sufficient t n T M .within) t (omega arith) long) ∙ is
+  kept = ap (λ (z : List Entry). term-of z (take n M) (n - 1)) (front-kept t (t + n) T after (check-meant m L sufficient t n T M .within)) ∙ is
 
   both-mean : (image : List ℕ) → image-term image ≡ e → Image-means m image (checked-both m t n T M)
   both-mean image q = record {
@@ -89,15 +82,8 @@ module _ (m : Meaning) (L : Lawful m) (image : List ℕ) where
     term-is : job-term t n T₁ M₁ ≡ image-term image
     term-is = ap₂ (λ (a b : List Entry). term-of a b (n - 1)) (ap (take t) types-are ∙ types-front T) (ap (take n) terms-are ∙ terms-front M)
 
-    long : t ≤ length T₁
-    long =
-        let a = length-append (types-in image t n) (drop (length (types-in image t n)) T) in
-        let b : length (types-in image t n) ≡ t = length-entries _ _ t 0 in
-        let c = ap length types-are in
-        omega arith
-
     read-means : Image-means m image (checked-both m t n T₁ M₁)
-    read-means = both-mean m L t n T₁ M₁ (image-term image) term-is long image refl
+    read-means = both-mean m L t n T₁ M₁ (image-term image) term-is image refl
 
   by-reading : (a : Answer) → read-asked m image (length types-blank) (length terms-blank) ≡ a → Image-means m image (after-reading m image (told a (counts-told image)))
   by-reading (Ok tt) q = read-means types-blank terms-blank q

@@ -2,12 +2,13 @@
 use Prim.Native.Nat.{ℕ, zero, suc, _+_, _-_, _<_, _≤_}
 use mathlib.Core.Path.{_≡_, refl, ap, ap₂, sym, _∙_, subst, subst₂}
 use mathlib.Core.List.{List, [], _∷_, _++_}
+use mathlib.Core.Logic.{⊎-elim}
 use mathlib.Core.Bool.{Bool, true, false, cond, _&&_}
 use native.Mathlib.Omega.{arith}
 use lib.Dec.{eqb, ltb, lit<}
 use lib.ListN.{getD, length, set, take, drop}
-use Rattle.std.proofs.shelf.Lists.{getD-take}
-use Rattle.std.proofs.shelf.Tests.{and-parts, and-from, le-leb, ltb-true}
+use Rattle.std.proofs.shelf.Lists.{getD-take, getD-set-same, getD-set-other, length-set}
+use Rattle.std.proofs.shelf.Tests.{and-parts, and-from, le-leb, ltb-true, eqb-true, cases-eq}
 use Rattle.std.specs.declared.option.Option.{Option}
 use Rattle.std.specs.declared.option.Option.the-variants.{Some, None}
 use Rattle.roles.specs.Meaning.{Meaning, Lawful}
@@ -25,12 +26,13 @@ use Rattle.trees.proofs.ByTag.{by-term-tag, made}
 use Rattle.trees.proofs.Closing.{closes}
 use Rattle.trees.proofs.Coding.{codes-are-roles}
 use Rattle.trees.proofs.Unfolding.{term-unfold}
-use Rattle.walks.specs.declared.fault.TypingFault.the-variants.{NoComputation}
+use Rattle.walks.specs.declared.fault.TypingFault.{TypingFault}
+use Rattle.walks.specs.declared.fault.TypingFault.the-variants.{NoFunction, Argument, Result, NoComputation}
 use Rattle.walks.specs.declared.finding.Finding.{Finding}
-use Rattle.walks.specs.declared.finding.Finding.the-variants.{Known, New}
+use Rattle.walks.specs.declared.finding.Finding.the-variants.{Refused, Known, New}
 use Rattle.walks.specs.Places.{Grounded, Placed, Rooted, Walkable}
-use Rattle.walks.specs.Rules.{base-type, function-type, guarded-type, computation-type, claim-of, applied, fixed, checked, joined, raised, restricted}
-use Rattle.walks.specs.Sense.{Least, Untyped, Typed-by, Within, Decides, Walk-decides}
+use Rattle.walks.specs.Rules.{base-type, function-type, guarded-type, computation-type, claim-of, asked, applied, fixed, checked-as, checked, joined-as, joined, raised-as, raised, restricted-as, restricted}
+use Rattle.walks.specs.Sense.{Least, Untyped, Typed-by, Within, Decides, Walk-decides, Tells-same, Walk-again}
 use Rattle.walks.specs.Walk.{Walked, going, stopped, Walker, and-then, settled, let-rest, walk-by, walk-of}
 use Rattle.walks.proofs.Goods.{Good, low-base, low-function, low-guarded, low-computation, good-applied, good-fixed, good-checked, good-joined, good-raised, good-restricted}
 use Rattle.walks.proofs.Links.{tys, All-low, Grew, Went, Halted, Linked, Judges, same-types, grew-none, settled-links, then-links, lift-links, apply-to, fix-of, check-of, join-to, raise-by, restrict-to, by-shape, apply-judges, fix-judges, check-judges, join-judges, raise-judges, restrict-judges, depth-of, variable-judges, all-at, all-more, tys-same}
@@ -318,24 +320,209 @@ module _ (m : Meaning) (L : Lawful m) (α : System) (t : ℕ) (T₀ es : List En
       subst (λ W. Linked m T u (size-of es k) (infer m α (tys T Γ) (term k)) W) (sym (walk-unfold (m .role) m α t es (length es) k rt h Γ T u))
       (subst₂ (λ (a : ℕ) (e : Term). Linked m T u a (infer m α (tys T Γ) e) (walk-by m α (t + k) (at es k) (walk-of m α t es) Γ T u)) (sym sz) (sym tm) r)
 
+  -- the same walk in a table that differs from place u up
+  record Same (T : List Entry) (u x : ℕ) (T′ : List Entry) (u′ x′ : ℕ) : Type 0 where
+    used : u′ ≡ u
+    last : x′ ≡ x
+    size : length T′ ≡ length T
+    agree : (i : ℕ) → i < u → at T′ i ≡ at T i
+
+  abbrev Alike : Walked → Walked → Type 0
+  Alike (going T u x) (going T′ u′ x′) = Same T u x T′ u′ x′
+  Alike (going T u x) (stopped T′ c) = ⊥
+  Alike (stopped T c) (going T′ u′ x′) = ⊥
+  Alike (stopped T c) (stopped T′ c′) = c′ ≡ c
+
+  abbrev Agree : ℕ → List Entry → List Entry → Type 0
+  Agree u T T′ = (length T′ ≡ length T) × ((i : ℕ) → i < u → at T′ i ≡ at T i)
+
+  alike-then : (w w′ : Walked) → Alike w w′ → (f f′ : List Entry → ℕ → ℕ → Walked) → ((T T′ : List Entry) (u x : ℕ) → w ≡ going T u x → Agree u T T′ → Alike (f T u x) (f′ T′ u x)) → Alike (and-then w f) (and-then w′ f′)
+  alike-then (going T u x) (going T′ u′ x′) a f f′ h = subst₂ (λ (z y : ℕ). Alike (f T u x) (f′ T′ z y)) (sym (a .used)) (sym (a .last)) (h T T′ u x refl (a .size, a .agree))
+  alike-then (going T u x) (stopped T′ c) a f f′ h = absurd a
+  alike-then (stopped T c) (going T′ u′ x′) a f f′ h = absurd a
+  alike-then (stopped T c) (stopped T′ c′) a f f′ h = a
+
+  alike-settled : (J J′ : Finding) → J′ ≡ J → (T T′ : List Entry) (u : ℕ) → u < length T → Agree u T T′ → Alike (settled J T u) (settled J′ T′ u)
+  alike-settled J J′ e T T′ u l a = subst (λ (z : Finding). Alike (settled J T u) (settled z T′ u)) (sym e) (go J)
+    where
+      new : (e : Entry) (i : ℕ) → i < u + 1 → at (set T′ u e) i ≡ at (set T u e) i
+      new e i h = ⊎-elim
+          (λ z. ap (λ (k : ℕ). at (set T′ u e) k) z ∙ (getD-set-same T′ u e no-entry (omega (arith, a .0)) ∙ (sym (getD-set-same T u e no-entry l) ∙ ap (λ (k : ℕ). at (set T u e) k) (sym z))))
+          (λ z. getD-set-other T′ u i e no-entry z ∙ (a .1 i (omega arith) ∙ sym (getD-set-other T u i e no-entry z)))
+          (cases-eq i u)
+
+      go : (J : Finding) → Alike (settled J T u) (settled J T′ u)
+      go (Refused c) = refl
+      go (Known x) = record { used = refl; last = refl; size = a .0; agree = a .1 }
+      go (New e) = record { used = refl; last = refl; size = length-set T′ u e ∙ (a .0 ∙ sym (length-set T u e)); agree = new e }
+
+  asked-same : (b : Bool) (c : TypingFault) (j j′ : Finding) → (b ≡ true → j ≡ j′) → asked b c j ≡ asked b c j′
+  asked-same true c j j′ h = h refl
+  asked-same false c j j′ h = refl
+
+  -- the rules look at types in use alone
+  module _ (T T′ : List Entry) (u : ℕ) (g : Grounded (m .role) T u) (a : (i : ℕ) → i < u → at T′ i ≡ at T i) where
+    type-again : (i : ℕ) → i < u → type-of T′ i ≡ type-of T i
+    type-again i l = tree-same T T′ i (λ k h. a k (omega arith))
+
+    applied-again : (p f x : ℕ) → f < u → x < u → applied m α p T′ f x ≡ applied m α p T f x
+    applied-again p f x lf lx =
+        ap (λ (e : Entry). asked (eqb (e .tag) 2) (NoFunction p) (asked (is-subtype m α (type-of T′ x) (type-of T′ (e .first))) (Argument p) (Known (e .second)))) (a f lf)
+        ∙ asked-same (eqb (at T f .tag) 2) (NoFunction p) _ _
+        (λ z.
+        let q = eqb-true (at T f .tag) 2 z in
+        ap₂ (λ (y r : Ty). asked (is-subtype m α y r) (Argument p) (Known (at T f .second))) (type-again x lx) (type-again (at T f .first) (omega (arith, g f lf .one (omega arith)))))
+
+    fixed-again : (p f : ℕ) → f < u → fixed m α p T′ f ≡ fixed m α p T f
+    fixed-again p f lf =
+        ap (λ (e : Entry). asked (eqb (e .tag) 2) (NoFunction p) (asked (is-subtype m α (type-of T′ (e .second)) (type-of T′ (e .first))) (Result p) (Known (e .second)))) (a f lf)
+        ∙ asked-same (eqb (at T f .tag) 2) (NoFunction p) _ _
+        (λ z.
+        let q = eqb-true (at T f .tag) 2 z in
+        ap₂ (λ (y r : Ty). asked (is-subtype m α y r) (Result p) (Known (at T f .second))) (type-again (at T f .second) (omega (arith, g f lf .two q))) (type-again (at T f .first) (omega (arith, g f lf .one (omega arith)))))
+
+  abbrev Again : ℕ → Type 0
+  Again k = (Γ : List ℕ) (T T′ : List Entry) (u : ℕ) → Ctx T u Γ (size-of es k) (term k) → Agree u T T′ → Alike (walk-of m α t es k Γ T u) (walk-of m α t es k Γ T′ u)
+
+  abbrev Node-again : ℕ → Entry → Type 0
+  Node-again k e = (Γ : List ℕ) (T T′ : List Entry) (u : ℕ) → Ctx T u Γ (node-size e) (node e) → Agree u T T′ → Alike (walk-by m α (t + k) e (walk-of m α t es) Γ T u) (walk-by m α (t + k) e (walk-of m α t es) Γ T′ u)
+
+  -- the last operand, and then the term
+  one-again : (f : ℕ) (Γ : List ℕ) (T T′ : List Entry) (u b : ℕ) → size-of es f < b → u + b ≤ length T → Goal f → Again f → Ctx T u Γ (size-of es f) (term f) → Agree u T T′ → (J : List Entry → ℕ → Finding) → ((T₁ T₁′ : List Entry) (u₁ x : ℕ) → Went m T u (size-of es f) (infer m α (tys T Γ) (term f)) T₁ u₁ x → ((i : ℕ) → i < u₁ → at T₁′ i ≡ at T₁ i) → J T₁′ x ≡ J T₁ x) → Alike (and-then (walk-of m α t es f Γ T u) (λ T u x. settled (J T x) T u)) (and-then (walk-of m α t es f Γ T′ u) (λ T u x. settled (J T x) T u))
+  one-again f Γ T T′ u b s l goal again c a J h =
+      alike-then (walk-of m α t es f Γ T u) (walk-of m α t es f Γ T′ u) (again Γ T T′ u c a) (λ T u x. settled (J T x) T u) (λ T u x. settled (J T x) T u)
+      (λ T₁ T₁′ u₁ x e g.
+      let w : Went m T u (size-of es f) (infer m α (tys T Γ) (term f)) T₁ u₁ x = subst (λ W. Linked m T u (size-of es f) (infer m α (tys T Γ) (term f)) W) e (goal Γ T u c) in
+      let r = w .grew in
+      alike-settled (J T₁ x) (J T₁′ x) (h T₁ T₁′ u₁ x w (g .1)) T₁ T₁′ u₁ (omega (arith, r .room, r .long)) g)
+
+  module _ (k : ℕ) (ih : (i : ℕ) → i < k → Goal i) (ag : (i : ℕ) → i < k → Again i) where
+    abbrev q : ℕ
+    q = t + k
+
+    leaf-again : (J : Finding) (T T′ : List Entry) (u : ℕ) → u + 1 ≤ length T → Agree u T T′ → Alike (settled J T u) (settled J T′ u)
+    leaf-again J T T′ u l a = alike-settled J J refl T T′ u (omega arith) a
+
+    plain-again : (f : ℕ) → f < k → (Γ : List ℕ) (T T′ : List Entry) (u : ℕ) (e : Term) → Ctx T u Γ (1 + ((0 + size-of es f) + 0)) e → closed (depth-of Γ) (term f) ≡ true → Agree u T T′ → (J : List Entry → ℕ → Finding) → ((T₁ T₁′ : List Entry) (u₁ x : ℕ) → Grounded (m .role) T₁ u₁ → x < u₁ → ((i : ℕ) → i < u₁ → at T₁′ i ≡ at T₁ i) → J T₁′ x ≡ J T₁ x) → Alike (and-then (walk-of m α t es f Γ T u) (λ T u x. settled (J T x) T u)) (and-then (walk-of m α t es f Γ T′ u) (λ T u x. settled (J T x) T u))
+    plain-again f l Γ T T′ u e x sh a J h =
+        one-again f Γ T T′ u (1 + ((0 + size-of es f) + 0)) (omega arith) (omega (arith, x .long)) (ih f l) (ag f l)
+        (record { gr = x .gr; since = x .since; low = x .low; front = x .front; long = omega (arith, x .long); shut = sh }) a J
+        (λ T₁ T₁′ u₁ y w g. h T₁ T₁′ u₁ y (w .grew .ground) (w .there) g)
+
+    -- after the first operand
+    second-ctx : (f s : ℕ) (Γ Δ : List ℕ) (T : List Entry) (u : ℕ) (e : Term) (T₁ : List Entry) (u₁ : ℕ) → Ctx T u Γ (1 + ((0 + size-of es f) + ((0 + size-of es s) + 0))) e → Grew m T u (size-of es f) T₁ u₁ → All-low u₁ Δ → closed (depth-of Δ) (term s) ≡ true → Ctx T₁ u₁ Δ (size-of es s) (term s)
+    second-ctx f s Γ Δ T u e T₁ u₁ x g l sh = later T u (size-of es f) T₁ u₁ Δ (size-of es s) (term s) g (x .since) (x .front) l (omega (arith, x .long)) sh
+
+    app-again : (f s c : ℕ) → Placed (m .role) t k (made 19 f s c) → Node-again k (made 19 f s c)
+    app-again f s c pl Γ T T′ u x a =
+        alike-then (walk-of m α t es f Γ T u) (walk-of m α t es f Γ T′ u) (ag f (pl .low 0 (lit< tt)) Γ T T′ u c₁ a) _ _
+        (λ T₁ T₁′ u₁ y e g.
+        let w : Went m T u (size-of es f) (infer m α (tys T Γ) (term f)) T₁ u₁ y = subst (λ W. Linked m T u (size-of es f) (infer m α (tys T Γ) (term f)) W) e (ih f (pl .low 0 (lit< tt)) Γ T u c₁) in
+        let r = w .grew in
+        one-again s Γ T₁ T₁′ u₁ (size-of es s + 1) (omega arith) (omega (arith, x .long, r .room, r .long)) (ih s (pl .low 1 (lit< tt))) (ag s (pl .low 1 (lit< tt)))
+        (second-ctx f s Γ Γ T u _ T₁ u₁ x r (all-more u u₁ (r .more) Γ (x .low)) (and-parts (closed (depth-of Γ) (term f)) _ (x .shut) .1)) g (λ T z. applied m α q T y z)
+        (λ T₂ T₂′ u₂ z w₂ g₂. applied-again T₂ T₂′ u₂ (w₂ .grew .ground) g₂ q y z (omega (arith, w .there, w₂ .grew .more)) (w₂ .there)))
+      where
+        c₁ : Ctx T u Γ (size-of es f) (term f)
+        c₁ = record { gr = x .gr; since = x .since; low = x .low; front = x .front; long = omega (arith, x .long); shut = and-parts _ _ (x .shut) .0 }
+
+    let-again : (f s c : ℕ) → Placed (m .role) t k (made 24 f s c) → Node-again k (made 24 f s c)
+    let-again f s c pl Γ T T′ u x a =
+        alike-then (walk-of m α t es f Γ T u) (walk-of m α t es f Γ T′ u) (ag f (pl .low 0 (lit< tt)) Γ T T′ u c₁ a) _ _
+        (λ T₁ T₁′ u₁ y e g.
+        let w : Went m T u (size-of es f) (infer m α (tys T Γ) (term f)) T₁ u₁ y = subst (λ W. Linked m T u (size-of es f) (infer m α (tys T Γ) (term f)) W) e (ih f (pl .low 0 (lit< tt)) Γ T u c₁) in
+        let same : at T₁′ y ≡ at T₁ y = g .1 y (w .there) in
+        subst (λ (d : Entry). Alike (let-rest m q E (walk-of m α t es) Γ T₁ u₁ y) (cond (eqb (d .tag) 4) (and-then (walk-of m α t es s (d .first ∷ Γ) T₁′ u₁) (λ T u z. settled (joined m q T y z) T u)) (stopped T₁′ (NoComputation q)))) (sym same)
+        (rest T₁ T₁′ u₁ y w g (eqb (at T₁ y .tag) 4) refl))
+      where
+        E : Entry
+        E = made 24 f s c
+
+        c₁ : Ctx T u Γ (size-of es f) (term f)
+        c₁ = record { gr = x .gr; since = x .since; low = x .low; front = x .front; long = omega (arith, x .long); shut = and-parts _ _ (x .shut) .0 }
+
+        V : List Entry → ℕ → ℕ → ℕ → Walked
+        V S v y i = and-then (walk-of m α t es s (i ∷ Γ) S v) (λ T u z. settled (joined m q T y z) T u)
+
+        rest : (T₁ T₁′ : List Entry) (u₁ y : ℕ) → Went m T u (size-of es f) (infer m α (tys T Γ) (term f)) T₁ u₁ y → Agree u₁ T₁ T₁′ → (b : Bool) → eqb (at T₁ y .tag) 4 ≡ b → Alike (cond b (and-then (walk-of m α t es s (at T₁ y .first ∷ Γ) T₁ u₁) (λ T u z. settled (joined m q T y z) T u)) (stopped T₁ (NoComputation q))) (cond b (and-then (walk-of m α t es s (at T₁ y .first ∷ Γ) T₁′ u₁) (λ T u z. settled (joined m q T y z) T u)) (stopped T₁′ (NoComputation q)))
+        rest T₁ T₁′ u₁ y w g false z = refl
+        rest T₁ T₁′ u₁ y w g true z =
+            let r = w .grew in
+            let th = w .there in
+            let tag = eqb-true (at T₁ y .tag) 4 z in
+            let il : at T₁ y .first < u₁ = omega (arith, r .ground y th .one (omega arith)) in
+            one-again s (at T₁ y .first ∷ Γ) T₁ T₁′ u₁ (size-of es s + 1) (omega arith) (omega (arith, x .long, r .room, r .long)) (ih s (pl .low 1 (lit< tt))) (ag s (pl .low 1 (lit< tt)))
+            (second-ctx f s Γ (at T₁ y .first ∷ Γ) T u _ T₁ u₁ x r (il, all-more u u₁ (r .more) Γ (x .low)) (and-parts (closed (depth-of Γ) (term f)) _ (x .shut) .1)) g (λ T z. joined m q T y z)
+            (λ T₂ T₂′ u₂ n w₂ g₂. ap₂ (joined-as m q) (g₂ y (omega (arith, w₂ .grew .more))) (g₂ n (w₂ .there)))
+
+    node-again : (e : Entry) → term-tag (e .tag) ≡ true → Placed (m .role) t k e → Node-again k e
+    node-again =
+        by-term-tag (λ e. Placed (m .role) t k e → Node-again k e)
+        (λ f s c pl Γ T T′ u x a. leaf-again (New (base-type f)) T T′ u (x .long) a)
+        (λ f s c pl Γ T T′ u x a. leaf-again (Known (getD Γ f 0)) T T′ u (x .long) a)
+        (λ f s c pl Γ T T′ u x a.
+        let n : ℕ = claim-of α (made 18 f s c) in
+        one-again f (n ∷ Γ) T T′ u (1 + ((0 + size-of es f) + 0)) (omega arith) (omega (arith, x .long)) (ih f (pl .low 0 (lit< tt))) (ag f (pl .low 0 (lit< tt)))
+        (record { gr = x .gr; since = x .since; low = (omega (arith, x .since, claim-low α t (made 18 f s c) (pl .claim refl)), x .low); front = x .front; long = omega (arith, x .long); shut = x .shut }) a (λ T y. New (function-type n y)) (λ T₁ T₁′ u₁ y w g. refl))
+        app-again
+        (λ f s c pl Γ T T′ u x a. plain-again f (pl .low 0 (lit< tt)) Γ T T′ u _ x (x .shut) a (λ T y. fixed m α q T y) (λ T₁ T₁′ u₁ y g l e. fixed-again T₁ T₁′ u₁ g e q y l))
+        (λ f s c pl Γ T T′ u x a. plain-again f (pl .low 0 (lit< tt)) Γ T T′ u _ x (x .shut) a (λ T y. New (guarded-type c y)) (λ T₁ T₁′ u₁ y g l e. refl))
+        (λ f s c pl Γ T T′ u x a. plain-again f (pl .low 0 (lit< tt)) Γ T T′ u _ x (x .shut) a (λ T y. checked q T y) (λ T₁ T₁′ u₁ y g l e. ap (checked-as q) (e y l)))
+        (λ f s c pl Γ T T′ u x a. plain-again f (pl .low 0 (lit< tt)) Γ T T′ u _ x (x .shut) a (λ T y. New (computation-type (m .bottom) y)) (λ T₁ T₁′ u₁ y g l e. refl))
+        let-again
+        (λ f s c pl Γ T T′ u x a. plain-again f (pl .low 0 (lit< tt)) Γ T T′ u _ x (x .shut) a (λ T y. raised m q T c y) (λ T₁ T₁′ u₁ y g l e. ap (raised-as m q c) (e y l)))
+        (λ f s c pl Γ T T′ u x a. plain-again f (pl .low 0 (lit< tt)) Γ T T′ u _ x (x .shut) a (λ T y. restricted m α q T c y) (λ T₁ T₁′ u₁ y g l e. ap (restricted-as m α q c) (e y l)))
+
+  again : (b k : ℕ) → k < b → k < length es → Again k
+  again zero k l h Γ T T′ u c a = let z : ⊥ = omega arith in absurd z
+  again (suc b) k l h Γ T T′ u c a =
+      let rt = rooted m t T₀ es wk in
+      let pl = rt k h in
+      let z : names (at es k .tag) - 0 ≡ names (at es k .tag) = omega arith in
+      let sz : size-of es k ≡ node-size (at es k) = sum-is (m .role) t es 0 (length es) k rt h ∙ ap (λ (n : ℕ). 1 + sum-rest 0 (at es k) (size-of es) n 0) z in
+      let tm : term k ≡ node (at es k) = term-unfold (m .role) J₀ es (wk .formed) k h in
+      let c′ : Ctx T u Γ (node-size (at es k)) (node (at es k)) = subst₂ (λ (a : ℕ) (e : Term). Ctx T u Γ a e) sz tm c in
+      subst₂ Alike (sym (walk-unfold (m .role) m α t es (length es) k rt h Γ T u)) (sym (walk-unfold (m .role) m α t es (length es) k rt h Γ T′ u))
+      (node-again k (λ i j. link b i (omega arith) (omega arith)) (λ i j. again b i (omega arith) (omega arith)) (at es k) (tagged (m .role) t k (at es k) pl) pl Γ T T′ u c′ a)
+
   abbrev root : ℕ
   root = length es - 1
 
-  whole : Linked m T₀ t (length es) (infer m α [] (term root)) (walk-of m α t es root [] T₀ t)
-  whole =
+  root-size : size-of es root ≡ length es
+  root-size =
       let some = wk .some in
       let len : length es ≡ root + 1 = omega arith in
-      let sz : size-of es root ≡ length es = once-size (m .role) t es root len (subst (Rooted (m .role) t es) len (rooted m t T₀ es wk)) (λ i l. wk .formed .named-once i l) ∙ sym len in
-      subst (λ (z : ℕ). Linked m T₀ t z (infer m α [] (term root)) (walk-of m α t es root [] T₀ t)) sz
-      (link (length es) root (omega arith) (omega arith) [] T₀ t
-      (record {
+      once-size (m .role) t es root len (subst (Rooted (m .role) t es) len (rooted m t T₀ es wk)) (λ i l. wk .formed .named-once i l) ∙ sym len
+
+  begins : Ctx T₀ t [] (size-of es root) (term root)
+  begins =
+      let some = wk .some in
+      let sz = root-size in
+      record {
         gr = ground m t T₀ es wk;
         since = omega arith;
         low = tt;
         front = λ i l. tree-same J₀ T₀ i (λ k h. sym (at-front m t T₀ es wk k (omega arith)));
         long = omega (arith, wk .room);
         shut = closes (m .role) J₀ es (wk .formed) (wk .some) (wk .few);
-      }))
+      }
+
+  whole : Linked m T₀ t (length es) (infer m α [] (term root)) (walk-of m α t es root [] T₀ t)
+  whole =
+      let some = wk .some in
+      subst (λ (z : ℕ). Linked m T₀ t z (infer m α [] (term root)) (walk-of m α t es root [] T₀ t)) root-size
+      (link (length es) root (omega arith) (omega arith) [] T₀ t begins)
+
+  tells : (w w′ : Walked) → Linked m T₀ t (length es) (infer m α [] (term root)) w → Alike w w′ → Tells-same w w′
+  tells (going T u x) (going T′ u′ x′) l a = (a .last, ap (at T′) (a .last) ∙ a .agree x (l .there))
+  tells (going T u x) (stopped T′ c) l a = a
+  tells (stopped T c) (going T′ u′ x′) l a = a
+  tells (stopped T c) (stopped T′ c′) l a = a
+
+  tell-again : (T′ : List Entry) → length T′ ≡ length T₀ → ((i : ℕ) → i < t → at T′ i ≡ at T₀ i) → Tells-same (walk-of m α t es root [] T₀ t) (walk-of m α t es root [] T′ t)
+  tell-again T′ l a =
+      let some = wk .some in
+      tells (walk-of m α t es root [] T₀ t) (walk-of m α t es root [] T′ t) whole (again (length es) root (omega arith) (omega arith) [] T₀ T′ t begins (l, a))
 
   nothing-bound : (i : ℕ) (y : Ty) → None ≡ Some y → well-coded m y ≡ true
   nothing-bound i y q = absurd (none-some q)
@@ -354,3 +541,6 @@ module _ (m : Meaning) (L : Lawful m) (α : System) (t : ℕ) (T₀ es : List En
 
 pub walk-decides : Walk-decides
 walk-decides m L α t T₀ es wk = decided m L α t T₀ es wk (walk-of m α t es (length es - 1) [] T₀ t) (whole m L α t T₀ es wk)
+
+pub walk-again : Walk-again
+walk-again m L α t T T′ es wk l a = tell-again m L α t T es wk T′ l a

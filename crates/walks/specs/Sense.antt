@@ -50,3 +50,17 @@ abbrev pub Walk-decides : Type 0
 Walk-decides =
     (m : Meaning) → Lawful m → (α : System) (t : ℕ) (types terms : List Entry) → Walkable m t types terms →
     Decides m α t types terms (walk-of m α t terms (length terms - 1) [] types t)
+
+-- Two walks tell the same: the same fault, or a type at the same place, with the same entry there.
+abbrev pub Tells-same : Walked → Walked → Type 0
+Tells-same (going T u x) (going T′ u′ x′) = (x′ ≡ x) × (at T′ x′ ≡ at T x)
+Tells-same (going T u x) (stopped T′ c) = ⊥
+Tells-same (stopped T c) (going T′ u x) = ⊥
+Tells-same (stopped T c) (stopped T′ c′) = c′ ≡ c
+
+-- What stands from place t up does not matter to a walk.
+abbrev pub Walk-again : Type 0
+Walk-again =
+    (m : Meaning) → Lawful m → (α : System) (t : ℕ) (types types′ terms : List Entry) → Walkable m t types terms →
+    length types′ ≡ length types → ((i : ℕ) → i < t → at types′ i ≡ at types i) →
+    Tells-same (walk-of m α t terms (length terms - 1) [] types t) (walk-of m α t terms (length terms - 1) [] types′ t)

@@ -8,15 +8,15 @@ use Rattle.walks.proofs.Placing.{ground}
 use Rattle.checks.specs.Systems.{meant}
 use Rattle.checks.proofs.Depths.{root-depth}
 use Rattle.checks.proofs.Walks.{pend, pend-sum, pend-stopped}
-use Rattle.checks.proofs.Stack.{start-fits, start-sum, start-pend, placed, ready, variable-bound, finish-pend, finish-good, pop-same, pop-fresh, pop-sum, stop-pend, v-there, push-pend, push-sum, push-fits}
+use Rattle.checks.proofs.Stack.{start-fits, start-sum, start-pend, placed, ready, variable-bound, finish-pend, finish-good, pop-same, pop-fresh, pop-sum, stop-pend, v-there, pushed-pend, pushed-sum, pushed-fits, room}
 use Rattle.checks.proofs.walk.walk.Needs as need
 
 pub loop-top-holds : need.loop-top-holds
 loop-top-holds g c =
-    let s = start-sum (g .S·Scheme .meaning (c .args .scheme .now)) (meant (c .args .system)) (c .args .t) (c .args .types .now) (c .args .terms .now) (c .pre) (length (c .args .terms .now) - 1) (omega (arith, c .pre .some)) (replicate 1024 (record { number = length (c .args .terms .now) - 1; stage = 0; first = 0; depth = 0 })) (replicate 1024 0) refl in (
-      start-fits (g .S·Scheme .meaning (c .args .scheme .now)) (c .args .t) (length (c .args .terms .now) - 1) (c .args .terms .now) (c .args .types .now) (replicate 1024 (record { number = length (c .args .terms .now) - 1; stage = 0; first = 0; depth = 0 })) (replicate 1024 0) refl refl refl (ground (g .S·Scheme .meaning (c .args .scheme .now)) (c .args .t) (c .args .types .now) (c .args .terms .now) (c .pre)) (root-depth (g .S·Scheme .meaning (c .args .scheme .now)) (c .args .t) (c .args .types .now) (c .args .terms .now) (c .pre)),
+    let s = start-sum (g .S·Scheme .meaning (c .args .scheme .now)) (meant (c .args .system)) (c .args .t) (c .args .types .now) (c .args .terms .now) (c .pre) (length (c .args .terms .now) - 1) (omega (arith, c .pre .some)) (replicate 1024 (c .open-frames .result)) (replicate 1024 0) (c .open-frames .ensures) in (
+      start-fits (g .S·Scheme .meaning (c .args .scheme .now)) (c .args .t) (length (c .args .terms .now) - 1) (c .args .terms .now) (c .args .types .now) (replicate 1024 (c .open-frames .result)) (replicate 1024 0) refl refl (c .open-frames .ensures) (ground (g .S·Scheme .meaning (c .args .scheme .now)) (c .args .t) (c .args .types .now) (c .args .terms .now) (c .pre)) (root-depth (g .S·Scheme .meaning (c .args .scheme .now)) (c .args .t) (c .args .types .now) (c .args .terms .now) (c .pre)),
       omega arith,
-      start-pend (g .S·Scheme .meaning (c .args .scheme .now)) (meant (c .args .system)) (c .args .t) (c .args .types .now) (c .args .terms .now) (c .pre) (length (c .args .terms .now) - 1) (omega (arith, c .pre .some)) (replicate 1024 (record { number = length (c .args .terms .now) - 1; stage = 0; first = 0; depth = 0 })) (replicate 1024 0) refl,
+      start-pend (g .S·Scheme .meaning (c .args .scheme .now)) (meant (c .args .system)) (c .args .t) (c .args .types .now) (c .args .terms .now) (c .pre) (length (c .args .terms .now) - 1) (omega (arith, c .pre .some)) (replicate 1024 (c .open-frames .result)) (replicate 1024 0) (c .open-frames .ensures),
     )
 
 pub enters-requires : need.enters-requires
@@ -41,14 +41,14 @@ binder-requires g c κs = (
   (λ z. let p = placed (g .S·Scheme .meaning (c .args .scheme .now)) (g .S·Scheme·met .lawful (c .args .scheme .now)) (meant (c .args .system)) (c .args .t) (c .args .types .now) (c .args .terms .now) (c .pre) (length (c .args .terms .now) - 1) (omega (arith, c .pre .some)) (c .loop-top .types) (c .loop-top .used) (c .loop-top .last) (c .loop-top .frames) (c .loop-top .binders) (c .loop-top .top) (c .loop-top .top - 1) (omega arith) (c .loop-top .inv .0) .claim z .1 in let s = c .pre .small in omega arith),
 )
 
-pub loop-top-less-then-stage-named-terms : need.loop-top-less-then-stage-named-terms
-loop-top-less-then-stage-named-terms g c = let s = push-sum (g .S·Scheme .meaning (c .args .scheme .now)) (g .S·Scheme·met .lawful (c .args .scheme .now)) (meant (c .args .system)) (c .args .t) (c .args .types .now) (c .args .terms .now) (c .pre) (length (c .args .terms .now) - 1) (omega (arith, c .pre .some)) (c .loop-top .types) (c .loop-top .used) (c .loop-top .last) (c .loop-top .frames) (c .loop-top .binders) (c .loop-top .top) (c .loop-top .top - 1) (omega arith) (c .loop-top .inv .0) (c .operand .result) (c .binder .result) (c .deeper .result) (omega arith) (sym (c .if-not-enters .ensures tt)) (c .operand .ensures) (c .binder .ensures) (c .deeper .ensures) 1 in omega arith
+pub loop-top-less-then-frame-named-terms : need.loop-top-less-then-frame-named-terms
+loop-top-less-then-frame-named-terms g c = let s = pushed-sum (g .S·Scheme .meaning (c .args .scheme .now)) (g .S·Scheme·met .lawful (c .args .scheme .now)) (meant (c .args .system)) (c .args .t) (c .args .types .now) (c .args .terms .now) (c .pre) (length (c .args .terms .now) - 1) (omega (arith, c .pre .some)) (c .loop-top .types) (c .loop-top .used) (c .loop-top .last) (c .loop-top .frames) (c .loop-top .binders) (c .loop-top .top) (c .loop-top .top - 1) (omega arith) (c .loop-top .inv .0) _ (c .binder .result) _ (omega arith) (sym (c .if-not-enters .ensures tt)) refl (c .binder .ensures) refl (c .next .result) (c .enter .result) (c .next .ensures) (c .enter .ensures) 1 in omega arith
 
-pub loop-top-again-then-stage-named-terms : need.loop-top-again-then-stage-named-terms
-loop-top-again-then-stage-named-terms g c =
-    let s = push-sum (g .S·Scheme .meaning (c .args .scheme .now)) (g .S·Scheme·met .lawful (c .args .scheme .now)) (meant (c .args .system)) (c .args .t) (c .args .types .now) (c .args .terms .now) (c .pre) (length (c .args .terms .now) - 1) (omega (arith, c .pre .some)) (c .loop-top .types) (c .loop-top .used) (c .loop-top .last) (c .loop-top .frames) (c .loop-top .binders) (c .loop-top .top) (c .loop-top .top - 1) (omega arith) (c .loop-top .inv .0) (c .operand .result) (c .binder .result) (c .deeper .result) (omega arith) (sym (c .if-not-enters .ensures tt)) (c .operand .ensures) (c .binder .ensures) (c .deeper .ensures) 0 in
+pub loop-top-again-then-frame-named-terms : need.loop-top-again-then-frame-named-terms
+loop-top-again-then-frame-named-terms g c =
+    let s = pushed-sum (g .S·Scheme .meaning (c .args .scheme .now)) (g .S·Scheme·met .lawful (c .args .scheme .now)) (meant (c .args .system)) (c .args .t) (c .args .types .now) (c .args .terms .now) (c .pre) (length (c .args .terms .now) - 1) (omega (arith, c .pre .some)) (c .loop-top .types) (c .loop-top .used) (c .loop-top .last) (c .loop-top .frames) (c .loop-top .binders) (c .loop-top .top) (c .loop-top .top - 1) (omega arith) (c .loop-top .inv .0) _ (c .binder .result) _ (omega arith) (sym (c .if-not-enters .ensures tt)) refl (c .binder .ensures) refl (c .next .result) (c .enter .result) (c .next .ensures) (c .enter .ensures) 0 in
     let u = c .loop-top .inv .1 in
-    (push-fits (g .S·Scheme .meaning (c .args .scheme .now)) (g .S·Scheme·met .lawful (c .args .scheme .now)) (meant (c .args .system)) (c .args .t) (c .args .types .now) (c .args .terms .now) (c .pre) (length (c .args .terms .now) - 1) (omega (arith, c .pre .some)) (c .loop-top .types) (c .loop-top .used) (c .loop-top .last) (c .loop-top .frames) (c .loop-top .binders) (c .loop-top .top) (c .loop-top .top - 1) (omega arith) (c .loop-top .inv .0) (c .operand .result) (c .binder .result) (c .deeper .result) (omega arith) (sym (c .if-not-enters .ensures tt)) (c .operand .ensures) (c .binder .ensures) (c .deeper .ensures), omega arith, push-pend (g .S·Scheme .meaning (c .args .scheme .now)) (g .S·Scheme·met .lawful (c .args .scheme .now)) (meant (c .args .system)) (c .args .t) (c .args .types .now) (c .args .terms .now) (c .pre) (length (c .args .terms .now) - 1) (omega (arith, c .pre .some)) (c .loop-top .types) (c .loop-top .used) (c .loop-top .last) (c .loop-top .frames) (c .loop-top .binders) (c .loop-top .top) (c .loop-top .top - 1) (omega arith) (c .loop-top .inv .0) (c .operand .result) (c .binder .result) (c .deeper .result) (omega arith) (sym (c .if-not-enters .ensures tt)) (c .operand .ensures) (c .binder .ensures) (c .deeper .ensures) ∙ c .loop-top .inv .2)
+    (pushed-fits (g .S·Scheme .meaning (c .args .scheme .now)) (g .S·Scheme·met .lawful (c .args .scheme .now)) (meant (c .args .system)) (c .args .t) (c .args .types .now) (c .args .terms .now) (c .pre) (length (c .args .terms .now) - 1) (omega (arith, c .pre .some)) (c .loop-top .types) (c .loop-top .used) (c .loop-top .last) (c .loop-top .frames) (c .loop-top .binders) (c .loop-top .top) (c .loop-top .top - 1) (omega arith) (c .loop-top .inv .0) _ (c .binder .result) _ (omega arith) (sym (c .if-not-enters .ensures tt)) refl (c .binder .ensures) refl (c .next .result) (c .enter .result) (c .next .ensures) (c .enter .ensures), omega arith, pushed-pend (g .S·Scheme .meaning (c .args .scheme .now)) (g .S·Scheme·met .lawful (c .args .scheme .now)) (meant (c .args .system)) (c .args .t) (c .args .types .now) (c .args .terms .now) (c .pre) (length (c .args .terms .now) - 1) (omega (arith, c .pre .some)) (c .loop-top .types) (c .loop-top .used) (c .loop-top .last) (c .loop-top .frames) (c .loop-top .binders) (c .loop-top .top) (c .loop-top .top - 1) (omega arith) (c .loop-top .inv .0) _ (c .binder .result) _ (omega arith) (sym (c .if-not-enters .ensures tt)) refl (c .binder .ensures) refl (c .next .result) (c .enter .result) (c .next .ensures) (c .enter .ensures) ∙ c .loop-top .inv .2)
 
 pub judge-requires : need.judge-requires
 judge-requires g c κs =
@@ -83,3 +83,6 @@ loop-top-again g c =
     let n = c .pre .few in
     let k : c .loop-top .used < length (c .loop-top .types) = omega arith in
     (pop-fresh (g .S·Scheme .meaning (c .args .scheme .now)) (g .S·Scheme·met .lawful (c .args .scheme .now)) (meant (c .args .system)) (c .args .t) (c .args .types .now) (c .args .terms .now) (c .pre) (length (c .args .terms .now) - 1) (omega (arith, c .pre .some)) (c .loop-top .types) (c .loop-top .used) (c .loop-top .last) (c .loop-top .frames) (c .loop-top .binders) (c .loop-top .top) (c .loop-top .top - 1) (omega arith) (c .loop-top .inv .0) (c .in-New .entry) (finish-good (g .S·Scheme .meaning (c .args .scheme .now)) (g .S·Scheme·met .lawful (c .args .scheme .now)) (meant (c .args .system)) (c .args .t) (c .args .types .now) (c .args .terms .now) (c .pre) (length (c .args .terms .now) - 1) (omega (arith, c .pre .some)) (c .loop-top .types) (c .loop-top .used) (c .loop-top .last) (c .loop-top .frames) (c .loop-top .binders) (c .loop-top .top) (c .loop-top .top - 1) (omega arith) (c .loop-top .inv .0) (c .lookup-bound .result) (New (c .in-New .entry)) (c .lookup-bound .ensures) (c .in-New .ensures tt) (omega arith) (omega arith) (omega arith)) k, omega arith, finish-pend (g .S·Scheme .meaning (c .args .scheme .now)) (g .S·Scheme·met .lawful (c .args .scheme .now)) (meant (c .args .system)) (c .args .t) (c .args .types .now) (c .args .terms .now) (c .pre) (length (c .args .terms .now) - 1) (omega (arith, c .pre .some)) (c .loop-top .types) (c .loop-top .used) (c .loop-top .last) (c .loop-top .frames) (c .loop-top .binders) (c .loop-top .top) (c .loop-top .top - 1) (omega arith) (c .loop-top .inv .0) (c .lookup-bound .result) (New (c .in-New .entry)) (c .lookup-bound .ensures) (c .in-New .ensures tt) (omega arith) ∙ c .loop-top .inv .2)
+
+pub index-frames-top : need.index-frames-top
+index-frames-top g c = let r = room (g .S·Scheme .meaning (c .args .scheme .now)) (g .S·Scheme·met .lawful (c .args .scheme .now)) (meant (c .args .system)) (c .args .t) (c .args .types .now) (c .args .terms .now) (c .pre) (length (c .args .terms .now) - 1) (omega (arith, c .pre .some)) (c .loop-top .types) (c .loop-top .used) (c .loop-top .last) (c .loop-top .frames) (c .loop-top .binders) (c .loop-top .top) (c .loop-top .top - 1) (omega arith) (c .loop-top .inv .0) _ (c .binder .result) _ (omega arith) (sym (c .if-not-enters .ensures tt)) refl (c .binder .ensures) refl in let l = c .loop-top .inv .0 .frames in omega arith
