@@ -132,3 +132,43 @@ fn a_let_of_two_checks(rt: LibcRuntime) -> Result<(), Fail> {
         "job: types 1, terms 7\nstep 0: entry 6, let of 2 in 5, 7 of 12 places used\nstep 1: entry 8, let of 7 in 5, 9 of 12 places used\nstep 2: entry 5, check of 4, 9 of 12 places used\nstep 3: entry 9, unit over 3, 10 of 12 places used\nend: finished after 3 steps\n",
     )
 }
+
+// restrict 7. let a = (λ c. raise 2. check c) {2}[λ s. [s]]; let b = (λ d. raise 4. check d) {4}[7]; (λ f. λ x. f x) a b
+#[test]
+fn a_change_of_domain_finishes_after_a_dozen_steps(rt: LibcRuntime) -> Result<(), Fail> {
+    let job = [
+        e(17, 0, 0, 0),
+        e(22, 0, 0, 0),
+        e(25, 1, 0, 2),
+        e(18, 2, 0, 0),
+        e(17, 0, 0, 0),
+        e(23, 4, 0, 0),
+        e(18, 5, 0, 0),
+        e(21, 6, 0, 2),
+        e(19, 3, 7, 0),
+        e(17, 0, 0, 0),
+        e(22, 9, 0, 0),
+        e(25, 10, 0, 4),
+        e(18, 11, 0, 0),
+        e(16, 1, 0, 7),
+        e(21, 13, 0, 4),
+        e(19, 12, 14, 0),
+        e(17, 1, 0, 0),
+        e(17, 0, 0, 0),
+        e(19, 16, 17, 0),
+        e(18, 18, 0, 0),
+        e(18, 19, 0, 0),
+        e(17, 1, 0, 0),
+        e(19, 20, 21, 0),
+        e(17, 0, 0, 0),
+        e(19, 22, 23, 0),
+        e(24, 15, 24, 0),
+        e(24, 8, 25, 0),
+        e(26, 26, 0, 7),
+    ];
+    let text = lines(rt.alloc(), &job, 1, 50, 62)?;
+    check_eq(
+        text.as_str(),
+        "job: types 1, terms 28\nstep 0: entry 27, restrict by 7 of 26, 28 of 62 places used\nstep 1: entry 31, restrict by 7 of 30, 32 of 62 places used\nstep 2: entry 35, restrict by 7 of 34, 36 of 62 places used\nstep 3: entry 37, restrict by 7 of 36, 38 of 62 places used\nstep 4: entry 41, restrict by 7 of 40, 42 of 62 places used\nstep 5: entry 45, restrict by 7 of 44, 46 of 62 places used\nstep 6: entry 49, restrict by 7 of 48, 50 of 62 places used\nstep 7: entry 51, restrict by 7 of 50, 52 of 62 places used\nstep 8: entry 53, restrict by 7 of 52, 54 of 62 places used\nstep 9: entry 57, restrict by 7 of 56, 58 of 62 places used\nstep 10: entry 59, restrict by 7 of 58, 60 of 62 places used\nstep 11: entry 61, restrict by 7 of 60, 62 of 62 places used\nstep 12: entry 60, unit over 13, 62 of 62 places used\nend: finished after 12 steps\n",
+    )
+}
