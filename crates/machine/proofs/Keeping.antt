@@ -1,4 +1,4 @@
--- What a step keeps: its trees are held, they are closed, and a greater role makes the same step.
+-- What a step keeps: its trees are held, they are closed, and a greater role makes the same step. Assumes nothing.
 use mathlib.Core.Path.{_≡_, refl, sym, _∙_, ap, subst}
 use mathlib.Core.Bool.{Bool, true, false, cond, _&&_, _||_, true≢false, false≢true}
 use mathlib.Core.List.{List, [], _∷_, _++_}

@@ -1,4 +1,4 @@
--- What a step keeps, of any sort: if trees have it and their parts do, then so does what a step plans.
+-- What a step keeps, of any sort: if trees have it and their parts do, then so does what a step plans. Assumes nothing.
 use mathlib.Core.Path.{_≡_, refl, sym, _∙_, ap, subst}
 use mathlib.Core.Bool.{Bool, true, false, cond, _&&_, _||_, true≢false, false≢true}
 use mathlib.Core.List.{List, [], _∷_, _++_}

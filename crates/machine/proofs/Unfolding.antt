@@ -1,4 +1,4 @@
--- Trees of appended tables, and of an entry by its operands.
+-- Trees of appended tables, and of an entry by its operands. Assumes nothing.
 use mathlib.Core.Path.{_≡_, refl, sym, _∙_, ap, subst}
 use mathlib.Core.List.{List, [], _∷_, _++_, append-assoc}
 use Prim.Native.Nat.{ℕ, zero, suc, _+_, _≤_, _<_}

@@ -1,4 +1,4 @@
--- What a copy writes, by the entry's tag.
+-- What a copy writes, by the entry's tag. Assumes nothing.
 use mathlib.Core.Path.{_≡_, refl, sym, _∙_, ap, subst}
 use mathlib.Core.Bool.{Bool, true, false, cond, _&&_, _||_, true≢false, false≢true}
 use mathlib.Core.List.{List, [], _∷_, _++_}

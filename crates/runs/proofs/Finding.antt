@@ -1,4 +1,4 @@
--- The step of an entry, by its tag and that of its first operand.
+-- The step of an entry, by its tag and that of its first operand. Assumes nothing.
 use mathlib.Core.Path.{_≡_, refl, sym, _∙_, ap, subst}
 use mathlib.Core.Bool.{Bool, true, false, cond, _&&_, _||_, true≢false, false≢true}
 use mathlib.Core.List.{List, [], _∷_, _++_}

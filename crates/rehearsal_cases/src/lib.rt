@@ -1,0 +1,3 @@
+//! Rehearsals in lines, as the program prints them.
+#[cfg(test)]
+mod examples;
