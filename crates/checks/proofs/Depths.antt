@@ -41,7 +41,7 @@ deeper-second e d h = go (cases-eq (e .tag) 18) (eqb (e .tag) 24)
 module _ (m : Meaning) (t : ℕ) (T es : List Entry) (w : Walkable m t T es) where
   -- the last term stands under no binder
   pub root-depth : getD (depths es) (length es - 1) 0 ≡ 0
-  root-depth = depth-last es (lower (m .role) (take t T) es (w .formed)) (w .few) (w .some)
+  root-depth = depth-last es (lower (m .role) (take t T) es (w .formed .threaded)) (w .few) (w .some)
 
   module _ (k : ℕ) (l : k < length es) where
     abbrev E : Entry
@@ -49,18 +49,18 @@ module _ (m : Meaning) (t : ℕ) (T es : List Entry) (w : Walkable m t T es) whe
 
     first-down : 0 < names (E .tag) → getD (depths es) (E .first) 0 ≡ deeper-of E 0 (getD (depths es) k 0)
     first-down h =
-        let low = lower (m .role) (take t T) es (w .formed) in
+        let low = lower (m .role) (take t T) es (w .formed .threaded) in
         let j : E .first < k = low k l .first h in
-        let once = w .formed .named-once (E .first) (omega arith) in
+        let once = w .formed .threaded .once (E .first) (omega arith) in
         let few = w .few in
         depth-first es low few k (E .first) l (omega arith) once (and-from _ _ (lt-ltb 0 (names (E .tag)) h) (eq-eqb (E .first) (E .first) refl))
         ∙ sym (deeper-first E (getD (depths es) k 0))
 
     second-down : 1 < names (E .tag) → getD (depths es) (E .second) 0 ≡ deeper-of E 1 (getD (depths es) k 0)
     second-down h =
-        let low = lower (m .role) (take t T) es (w .formed) in
+        let low = lower (m .role) (take t T) es (w .formed .threaded) in
         let j : E .second < k = low k l .second h in
-        let once = w .formed .named-once (E .second) (omega arith) in
+        let once = w .formed .threaded .once (E .second) (omega arith) in
         let few = w .few in
         depth-second es low few k (E .second) l (omega arith) once (and-from _ _ (lt-ltb 1 (names (E .tag)) h) (eq-eqb (E .second) (E .second) refl))
         ∙ sym (deeper-second E (getD (depths es) k 0) h)

@@ -98,7 +98,7 @@ module _ (m : Meaning) (α : System) (t : ℕ) (T₀ es : List Entry) (wk : Walk
     start-sum =
         let a : pend-sum m α t es 0 fs 1 ≡ (1 + sum-rest 0 (at es root) (sum-of 0 es) (names (at es root .tag) - 0) 0) + 0 = ap (λ F. frame-sum m α t es 0 F + 0) q in
         let b = sum-is (m .role) t es 0 (root + 1) root rt low in
-        let c = once-size (m .role) t es root len rt (λ i l. wk .formed .named-once i (omega arith)) in
+        let c = once-size (m .role) t es root len rt (λ i l. wk .formed .threaded .once i (omega arith)) in
         omega arith
 
     pub start-pend : pend m α t es fs bs 1 (going T₀ t 0) ≡ walk-of m α t es root [] T₀ t

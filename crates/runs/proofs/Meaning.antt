@@ -85,7 +85,7 @@ term-at types es u c G l h =
     let n = length-take-le u es l in
     let k : c < length (take u es) = omega arith in
     terms-below types (take u es) G (length (take u es)) (omega arith) c k
-    ∙ (sym (keeps types (take u es) [] (drop u es) .0 .terms-kept c k) ∙ ap (λ (z : List Entry). term-of types z c) (take-append-drop u es))
+    ∙ (sym (keeps types (take u es) [] (drop u es) .terms-kept c k) ∙ ap (λ (z : List Entry). term-of types z c) (take-append-drop u es))
 
 module _ (m : Meaning) (r k n : ℕ) (fs : List Entry) (u c : ℕ) (G : Ground (take u fs)) (low : u ≤ length fs) (present : c < u) (sound : Sound (state fs u c)) where
   abbrev s : State

@@ -23,8 +23,8 @@ use Rattle.tables.specs.declared.entry.Entry.{Entry}
 use Rattle.tables.specs.Entries.{at, no-entry, names, term-tag}
 use Rattle.trees.specs.Trees.{kind, type-by, type-of, term-by, term-of}
 use Rattle.trees.proofs.ByTag.{by-term-tag, made}
-use Rattle.trees.proofs.Closing.{closes}
-use Rattle.trees.proofs.Coding.{codes-are-roles}
+use Rattle.trees.proofs.Closing.{bound-closed}
+use Rattle.trees.proofs.Coding.{types-coded}
 use Rattle.trees.proofs.Unfolding.{term-unfold}
 use Rattle.walks.specs.declared.fault.TypingFault.{TypingFault}
 use Rattle.walks.specs.declared.fault.TypingFault.the-variants.{NoFunction, Argument, Result, NoComputation}
@@ -181,7 +181,7 @@ module _ (m : Meaning) (L : Lawful m) (α : System) (t : ℕ) (T₀ es : List En
         coded : well-coded m CL ≡ true
         coded =
             let len = types-long m t T₀ es wk in
-            ap (well-coded m) (claim-is α (type-of J₀) E) ∙ codes-are-roles m J₀ es (wk .formed) .types-coded q (omega (arith, ql))
+            ap (well-coded m) (claim-is α (type-of J₀) E) ∙ types-coded m J₀ es (wk .formed) q (omega (arith, ql))
 
     at-application : (f s c : ℕ) → Placed (m .role) t k (made 19 f s c) → Node k (made 19 f s c)
     unfolding infer
@@ -314,7 +314,7 @@ module _ (m : Meaning) (L : Lawful m) (α : System) (t : ℕ) (T₀ es : List En
       let pl = rt k h in
       let z : names (at es k .tag) - 0 ≡ names (at es k .tag) = omega arith in
       let sz : size-of es k ≡ node-size (at es k) = sum-is (m .role) t es 0 (length es) k rt h ∙ ap (λ (n : ℕ). 1 + sum-rest 0 (at es k) (size-of es) n 0) z in
-      let tm : term k ≡ node (at es k) = term-unfold (m .role) J₀ es (wk .formed) k h in
+      let tm : term k ≡ node (at es k) = term-unfold (m .role) J₀ es (wk .formed .threaded) k h in
       let c′ : Ctx T u Γ (node-size (at es k)) (node (at es k)) = subst₂ (λ (a : ℕ) (e : Term). Ctx T u Γ a e) sz tm c in
       let r = at-node k (λ i j. link b i (omega arith) (omega arith)) (at es k) (tagged (m .role) t k (at es k) pl) pl Γ T u c′ in
       subst (λ W. Linked m T u (size-of es k) (infer m α (tys T Γ) (term k)) W) (sym (walk-unfold (m .role) m α t es (length es) k rt h Γ T u))
@@ -480,7 +480,7 @@ module _ (m : Meaning) (L : Lawful m) (α : System) (t : ℕ) (T₀ es : List En
       let pl = rt k h in
       let z : names (at es k .tag) - 0 ≡ names (at es k .tag) = omega arith in
       let sz : size-of es k ≡ node-size (at es k) = sum-is (m .role) t es 0 (length es) k rt h ∙ ap (λ (n : ℕ). 1 + sum-rest 0 (at es k) (size-of es) n 0) z in
-      let tm : term k ≡ node (at es k) = term-unfold (m .role) J₀ es (wk .formed) k h in
+      let tm : term k ≡ node (at es k) = term-unfold (m .role) J₀ es (wk .formed .threaded) k h in
       let c′ : Ctx T u Γ (node-size (at es k)) (node (at es k)) = subst₂ (λ (a : ℕ) (e : Term). Ctx T u Γ a e) sz tm c in
       subst₂ Alike (sym (walk-unfold (m .role) m α t es (length es) k rt h Γ T u)) (sym (walk-unfold (m .role) m α t es (length es) k rt h Γ T′ u))
       (node-again k (λ i j. link b i (omega arith) (omega arith)) (λ i j. again b i (omega arith) (omega arith)) (at es k) (tagged (m .role) t k (at es k) pl) pl Γ T T′ u c′ a)
@@ -492,7 +492,7 @@ module _ (m : Meaning) (L : Lawful m) (α : System) (t : ℕ) (T₀ es : List En
   root-size =
       let some = wk .some in
       let len : length es ≡ root + 1 = omega arith in
-      once-size (m .role) t es root len (subst (Rooted (m .role) t es) len (rooted m t T₀ es wk)) (λ i l. wk .formed .named-once i l) ∙ sym len
+      once-size (m .role) t es root len (subst (Rooted (m .role) t es) len (rooted m t T₀ es wk)) (λ i l. wk .formed .threaded .once i l) ∙ sym len
 
   begins : Ctx T₀ t [] (size-of es root) (term root)
   begins =
@@ -504,7 +504,7 @@ module _ (m : Meaning) (L : Lawful m) (α : System) (t : ℕ) (T₀ es : List En
         low = tt;
         front = λ i l. tree-same J₀ T₀ i (λ k h. sym (at-front m t T₀ es wk k (omega arith)));
         long = omega (arith, wk .room);
-        shut = closes (m .role) J₀ es (wk .formed) (wk .some) (wk .few);
+        shut = bound-closed (m .role) J₀ es (wk .formed .threaded) (wk .some) (wk .few) .0 (wk .formed .bound);
       }
 
   whole : Linked m T₀ t (length es) (infer m α [] (term root)) (walk-of m α t es root [] T₀ t)

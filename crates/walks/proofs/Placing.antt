@@ -104,5 +104,5 @@ module _ (m : Meaning) (t : ℕ) (T es : List Entry) (w : Walkable m t T es) whe
 
   pub rooted : Rooted (m .role) t es (length es)
   rooted k l =
-      let e = w .formed .terms-fit k l in
+      let e = w .formed .threaded .fit k l in
       placed-of (m .role) t k (at es k) (e .tag) (subst (λ (z : ℕ). term-operands (at es k) k z ≡ true) types-long (e .operands)) (e .code)
