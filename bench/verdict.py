@@ -9,7 +9,7 @@ import subprocess
 import sys
 
 MASK_8 = bytes([0, 8])
-UNIT, GUARD, CHECK, PURE, LET, RAISE = 16, 21, 22, 23, 24, 25
+UNIT, PURE, LET, RAISE = 16, 23, 24, 25
 VARIABLE, ABSTRACTION, APPLICATION = 17, 18, 19
 
 

@@ -43,6 +43,7 @@ pub(crate) fn claim(system: System, e: Entry) -> u32
     }
 }
 
+// The entry of a computation type.
 fn computation(role: u64, inner: u32) -> Entry
     ensures { λ r. ⌜ r ≡ computation-type role inner ⌝ }
 {
@@ -54,6 +55,7 @@ fn computation(role: u64, inner: u32) -> Entry
     }
 }
 
+// The rule of an application of an `f` to an `x`.
 fn applied<S: Scheme>(
     scheme: &S,
     system: System,
@@ -76,6 +78,7 @@ fn applied<S: Scheme>(
     }
 }
 
+// The rule of a fix of an `f`.
 fn fixed<S: Scheme>(
     scheme: &S,
     system: System,
@@ -97,6 +100,7 @@ fn fixed<S: Scheme>(
     }
 }
 
+// The rule of a check.
 fn checked(place: u32, body: Entry) -> Finding
     ensures { λ r. ⌜ r ≡ rule.checked-as place body ⌝ }
 {
@@ -107,6 +111,7 @@ fn checked(place: u32, body: Entry) -> Finding
     }
 }
 
+// The rule of a let whose first operand is a computation.
 fn joined<S: Scheme>(scheme: &S, place: u32, first: Entry, second: Entry) -> Finding
     requires { ⌜ (second .tag ≡ 4 → isSome (meaning (now scheme) .join (first .third) (second .third)) ≡ true) ⌝ }
     ensures { λ r. ⌜ r ≡ rule.joined-as (meaning (now (scheme .entry))) place first second ⌝ }
@@ -119,6 +124,7 @@ fn joined<S: Scheme>(scheme: &S, place: u32, first: Entry, second: Entry) -> Fin
     }
 }
 
+// The rule of a raise by a role.
 fn raised<S: Scheme>(scheme: &S, place: u32, by: u64, body: Entry) -> Finding
     requires { ⌜ (body .tag ≡ 4 → isSome (meaning (now scheme) .remainder (body .third) by) ≡ true) ⌝ }
     ensures { λ r. ⌜ r ≡ rule.raised-as (meaning (now (scheme .entry))) place by body ⌝ }
@@ -141,6 +147,7 @@ fn permitted<S: Scheme>(scheme: &S, system: System, to: u64, role: u64) -> bool
     }
 }
 
+// The rule of a restriction to a role.
 fn restricted<S: Scheme>(scheme: &S, system: System, place: u32, to: u64, body: Entry) -> Finding
     ensures { λ r. ⌜ r ≡ rule.restricted-as (meaning (now (scheme .entry))) (meant system) place to body ⌝ }
 {

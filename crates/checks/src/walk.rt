@@ -31,6 +31,7 @@ pub(crate) struct Frame {
     depth: u32,
 }
 
+// The operand of a stage: the first, then the second.
 fn operand(e: Entry, stage: u8) -> u32
     ensures { λ r. ⌜ r ≡ operand-of e stage ⌝ }
 {
@@ -61,12 +62,14 @@ fn enters(types: &[Entry], e: Entry, stage: u8, last: u32) -> bool
     }
 }
 
+// Is a variable bound in the operand?
 fn binds(e: Entry, stage: u8) -> bool
     ensures { λ r. ⌜ r ≡ binds-of e stage ⌝ }
 {
     e.tag == ABSTRACTION || (e.tag == LET && stage == 1)
 }
 
+// Under how many binders the operand stands.
 fn deeper(e: Entry, stage: u8, depth: u32) -> u32
     requires { ⌜ depth < 1024 ⌝ }
     ensures { λ r. ⌜ r ≡ deeper-of e stage depth ⌝ }

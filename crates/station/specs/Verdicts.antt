@@ -39,10 +39,11 @@ checked-both m t n types terms =
       necessary = of-check (check-of m necessary t n (check-of m sufficient t n types terms .table) terms .answer);
     }
 
--- The station's tables before anything is read: 1,536 places for types and 1,024 for terms, room for every job.
+-- The station's table of types before anything is read: 1,536 places, room for the types of every job and one more per term.
 abbrev pub types-blank : List Entry
 types-blank = replicate 1536 no-entry
 
+-- The station's table of terms before anything is read: 1,024 places, room for the terms of every job.
 abbrev pub terms-blank : List Entry
 terms-blank = replicate 1024 no-entry
 

@@ -84,15 +84,18 @@ restricted-as m α p to b =
     asked (eqb (b .tag) 4) (NoComputation p)
     (asked (permits m α to (b .third)) (Restriction p) (New (computation-type (b .third) (b .first))))
 
--- The same of an operand by the number of its type.
+-- Check of an operand, by the number of its type.
 abbrev pub checked : ℕ → List Entry → ℕ → Finding
 checked p T x = checked-as p (at T x)
 
+-- Let of two operands, by the numbers of their types.
 abbrev pub joined : Meaning → ℕ → List Entry → ℕ → ℕ → Finding
 joined m p T f x = joined-as m p (at T f) (at T x)
 
+-- Raise of an operand, by the number of its type.
 abbrev pub raised : Meaning → ℕ → List Entry → ℕ → ℕ → Finding
 raised m p T by x = raised-as m p by (at T x)
 
+-- Restriction of an operand, by the number of its type.
 abbrev pub restricted : Meaning → System → ℕ → List Entry → ℕ → ℕ → Finding
 restricted m α p T to x = restricted-as m α p to (at T x)
