@@ -11,6 +11,8 @@ use Rattle.machine.specs.Plans.{step}
 use Rattle.machine.specs.Turns.{advance}
 use Rattle.readings.specs.Bounds.{mask-8}
 use Rattle.readings.proofs.Examples.{readings}
+use Rattle.blocks.proofs.Reading.{scheme-readings}
+use Rattle.check_readings.proofs.Reading.{check-readings}
 use Rattle.run_readings.specs.Runs.{answer, restricted, Run-readings, All-readings}
 
 -- what is left of a context role within 2 lacks the guard's role 6
@@ -44,4 +46,4 @@ runs = record {
 }
 
 pub all-readings : All-readings
-all-readings = record { calculus = readings; runs = runs }
+all-readings = record { schemes = scheme-readings; calculus = readings; checks = check-readings; runs = runs }

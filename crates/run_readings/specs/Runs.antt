@@ -1,4 +1,4 @@
--- Worked readings of runs under the mask of width 8, joined to those of the calculus. Assumes nothing.
+-- Worked readings of runs under the mask of width 8, joined to those of the schemes, the calculus and the checks. Assumes nothing.
 use mathlib.Core.Path.{_≡_}
 use mathlib.Core.Bool.{true}
 use mathlib.Core.List.{List, [], _∷_, _++_}
@@ -15,6 +15,8 @@ use Rattle.runs.specs.declared.run.Progress.{Progress}
 use Rattle.runs.specs.Run.{begun, start-asked, started, refusal, gone, answered}
 use Rattle.run_laws.specs.Laws.{left-run, left-terms}
 use Rattle.readings.specs.Bounds.{mask-8, Readings}
+use Rattle.blocks.specs.Readings.{Scheme-readings}
+use Rattle.check_readings.specs.Bounds.{Check-readings}
 
 -- An entry by its tag and operands.
 abbrev pub entry : ℕ → ℕ → ℕ → ℕ → Entry
@@ -69,7 +71,9 @@ pub record Run-readings : Type 0 where
   pub misapplied-starts : started (start-asked mask-8 (record { types = 0; terms = 3 }) (no-entry ∷ no-entry ∷ no-entry ∷ []) misapplied 0) 3 0 ≡ Ok (begun 3 0)
   pub wrong-shape : answer 3 0 misapplied 5 ≡ Ok (record { made = 0; condition = ShapeFault 2 })
 
--- All readings.
+-- All readings: of the schemes, of the calculus, of the checks and of runs.
 pub record All-readings : Type 0 where
+  pub schemes : Scheme-readings
   pub calculus : Readings
+  pub checks : Check-readings
   pub runs : Run-readings

@@ -1,26 +1,5 @@
-use mathlib.Core.Path.{_≡_, refl}
-use Rattle.trees.specs.Trees.{type-of}
-use Rattle.walks.specs.Walk.{walk-of}
-use Rattle.check_readings.specs.Bounds.{Check-readings}
+use Rattle.check_readings.proofs.Reading.{check-readings}
 use Rattle.check_readings.proofs.check_readings_hold.Needs as need
 
-by-computation : Check-readings
-unfolding walk-of type-of
-by-computation = record {
-  check-bound = λ α. refl;
-  raise-leaves-rest = λ α. refl;
-  restrict-insufficient = refl;
-  restrict-necessary = refl;
-  let-joins = λ α. refl;
-  fix-sufficient = refl;
-  fix-necessary = refl;
-  no-function = λ α. refl;
-  claim-sufficient = refl;
-  claim-necessary = refl;
-  claims-exchanged = refl;
-  ladder-low-raise = λ α. refl;
-  ladder-high-raise = λ α. refl;
-}
-
 pub returns : need.returns
-returns c = by-computation
+returns c = check-readings
