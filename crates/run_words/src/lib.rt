@@ -1,4 +1,4 @@
-//! A rehearsal in lines that a technician can read aloud: the start, each step's current entry, and how it ended.
+//! A rehearsal in lines that a technician can read aloud: the bounds, the start, each step's current entry, and how it ended.
 mod entry_words;
 mod order;
 
@@ -8,6 +8,10 @@ use crate::order::split;
 use blocks::block::Block;
 use blocks::kinds::BlockScheme;
 use blocks::read::read_block;
+use checks::check::check_necessary;
+use checks::check::check_sufficient;
+use checks::clearance::Clearance;
+use checks::fault::CheckFault;
 use jobs::reader::read;
 use machine::condition::Condition;
 use roles::scheme::Scheme;
@@ -109,6 +113,44 @@ fn show_run<W: fmt::Write>(
     writeln!(f, " after {steps} steps")
 }
 
+// The line of one check: the bound, or the refusal.
+fn show_check<W: fmt::Write>(
+    name: &str,
+    answer: Result<u64, CheckFault>,
+    f: &mut fmt::Formatter<W>,
+) -> fmt::Result {
+    match answer {
+        Ok(bound) => writeln!(f, "{name} bound: {bound}"),
+        Err(fault) => {
+            let number = fault.number();
+            let place = fault.place();
+            writeln!(f, "{name} check refused: number {number}, place {place}")
+        }
+    }
+}
+
+// The bound of a clearance, which is given up: a rehearsal needs none.
+fn give_up(answer: Result<Clearance, CheckFault>) -> Result<u64, CheckFault> {
+    match answer {
+        Ok(clearance) => Ok(clearance.discard()),
+        Err(fault) => Err(fault),
+    }
+}
+
+// The lines of both checks.
+fn show_bounds<W: fmt::Write>(
+    scheme: &Block,
+    counts: Counts,
+    types: &mut [Entry],
+    terms: &[Entry],
+    f: &mut fmt::Formatter<W>,
+) -> fmt::Result {
+    let sufficient = give_up(check_sufficient(scheme, counts, types, terms));
+    show_check("sufficient", sufficient, f)?;
+    let necessary = check_necessary(scheme, counts, types, terms);
+    show_check("necessary", necessary, f)
+}
+
 // A rehearsal of a job that was read.
 fn show_rehearsal<W: fmt::Write>(
     scheme: &Block,
@@ -155,6 +197,7 @@ fn show_job<W: fmt::Write>(
         Ok(counts) => {
             let Counts { types: t, terms: n } = counts;
             writeln!(f, "job: types {t}, terms {n}")?;
+            show_bounds(scheme, counts, &mut types, terms, f)?;
             show_rehearsal(scheme, counts, &types, terms, order, f)
         }
     }
