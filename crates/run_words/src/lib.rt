@@ -33,6 +33,10 @@ const NO_ENTRY: Entry = Entry {
 #[derive(Clone, Copy)]
 pub struct Spoken<'a>(pub &'a [u8]);
 
+/// The same, to be printed as one advance by the whole budget.
+#[derive(Clone, Copy)]
+pub struct AtOnce<'a>(pub &'a [u8]);
+
 // How a run stands, in words.
 fn show_condition<W: fmt::Write>(condition: Condition, f: &mut fmt::Formatter<W>) -> fmt::Result {
     match condition {
@@ -51,6 +55,14 @@ fn show_condition<W: fmt::Write>(condition: Condition, f: &mut fmt::Formatter<W>
         Condition::ShapeFault { entry } => write!(f, "shape fault at entry {entry}"),
         Condition::TableFull => write!(f, "table full"),
     }
+}
+
+// The line of how a run ended.
+fn show_end<W: fmt::Write>(look: Look, f: &mut fmt::Formatter<W>) -> fmt::Result {
+    let steps = look.steps;
+    write!(f, "end: ")?;
+    show_condition(look.condition, f)?;
+    writeln!(f, " after {steps} steps")
 }
 
 // The line of where a run stands.
@@ -92,6 +104,22 @@ fn show_steps<W: fmt::Write>(
     Ok(())
 }
 
+// The whole run by one advance: where it stands then, and the end.
+fn show_advance<W: fmt::Write>(
+    scheme: &Block,
+    run: &mut Run,
+    terms: &mut [Entry],
+    budget: u64,
+    f: &mut fmt::Formatter<W>,
+) -> fmt::Result {
+    if let Err(fault) = run.advance(scheme, terms, budget) {
+        let number = fault.number();
+        return writeln!(f, "refused: number {number}");
+    }
+    show_look(run.look(), terms, f)?;
+    show_end(run.look(), f)
+}
+
 // The whole run, from its start: what is told with no budget, the steps, and the end.
 fn show_run<W: fmt::Write>(
     scheme: &Block,
@@ -106,11 +134,7 @@ fn show_run<W: fmt::Write>(
         return writeln!(f, "refused: number {number}");
     }
     show_steps(scheme, run, terms, budget, f)?;
-    let look = run.look();
-    let steps = look.steps;
-    write!(f, "end: ")?;
-    show_condition(look.condition, f)?;
-    writeln!(f, " after {steps} steps")
+    show_end(run.look(), f)
 }
 
 // The line of one check: the bound, or the refusal.
@@ -167,7 +191,11 @@ fn show_rehearsal<W: fmt::Write>(
             writeln!(f, "refused: number {number}, place {place}")
         }
         Ok(mut run) => {
-            let shown = show_run(scheme, &mut run, terms, order.budget, f);
+            let shown = if order.at_once {
+                show_advance(scheme, &mut run, terms, order.budget, f)
+            } else {
+                show_run(scheme, &mut run, terms, order.budget, f)
+            };
             let _look = run.close();
             shown
         }
@@ -203,20 +231,35 @@ fn show_job<W: fmt::Write>(
     }
 }
 
+// What an input asks for, step by step or at once.
+fn show_input<W: fmt::Write>(
+    input: &[u8],
+    at_once: bool,
+    f: &mut fmt::Formatter<W>,
+) -> fmt::Result {
+    match read_block(input) {
+        Err(fault) => {
+            let number = fault.number();
+            writeln!(f, "refused: number {number}, the scheme block")
+        }
+        Ok((scheme, rest)) => match split(rest, at_once) {
+            None => writeln!(
+                f,
+                "refused: a role, a budget and a number of term places follow the image"
+            ),
+            Some((image, order)) => show_job(&scheme, image, order, f),
+        },
+    }
+}
+
 pub impl fmt::Display for Spoken<'_> as SpokenDisplay {
     fn fmt<W: fmt::Write>(&self, f: &mut fmt::Formatter<W>) -> fmt::Result {
-        match read_block(self.0) {
-            Err(fault) => {
-                let number = fault.number();
-                writeln!(f, "refused: number {number}, the scheme block")
-            }
-            Ok((scheme, rest)) => match split(rest) {
-                None => writeln!(
-                    f,
-                    "refused: a role, a budget and a number of term places follow the image"
-                ),
-                Some((image, order)) => show_job(&scheme, image, order, f),
-            },
-        }
+        show_input(self.0, false, f)
+    }
+}
+
+pub impl fmt::Display for AtOnce<'_> as AtOnceDisplay {
+    fn fmt<W: fmt::Write>(&self, f: &mut fmt::Formatter<W>) -> fmt::Result {
+        show_input(self.0, true, f)
     }
 }

@@ -7,10 +7,12 @@ pub(crate) struct Order {
     pub role: u64,
     pub budget: u64,
     pub places: usize,
+    /// One advance by the whole budget, and not one for each step.
+    pub at_once: bool,
 }
 
 /// The image, and what the 18 bytes after it ask for.
-pub(crate) fn split(bytes: &[u8]) -> Option<(&[u8], Order)> {
+pub(crate) fn split(bytes: &[u8], at_once: bool) -> Option<(&[u8], Order)> {
     if bytes.len() < 18 {
         return None;
     }
@@ -24,6 +26,7 @@ pub(crate) fn split(bytes: &[u8]) -> Option<(&[u8], Order)> {
             role,
             budget,
             places,
+            at_once,
         },
     ))
 }
