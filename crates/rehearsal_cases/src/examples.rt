@@ -98,10 +98,10 @@ fn a_check_is_refused(rt: LibcRuntime) -> Result<(), Fail> {
 #[test]
 fn fix_of_the_identity(rt: LibcRuntime) -> Result<(), Fail> {
     let job = [e(17, 0, 0, 0), e(18, 0, 0, 0), e(20, 1, 0, 0)];
-    let text = lines(rt.alloc(), &job, 0, 2, 3)?;
+    let text = lines(rt.alloc(), &job, 0, 5, 3)?;
     check_eq(
         text.as_str(),
-        "job: types 1, terms 3\nsufficient bound: 0\nnecessary bound: 0\nstep 0: entry 2, fix of 1, 3 of 3 places used\nstep 1: entry 2, fix of 1, 3 of 3 places used\nstep 2: entry 2, fix of 1, 3 of 3 places used\nend: going after 2 steps\n",
+        "job: types 1, terms 3\nsufficient bound: 0\nnecessary bound: 0\nstep 0: entry 2, fix of 1, 3 of 3 places used\nstep 1: entry 2, fix of 1, 3 of 3 places used\nstep 2: entry 2, fix of 1, 3 of 3 places used\nstep 3: entry 2, fix of 1, 3 of 3 places used\nstep 4: entry 2, fix of 1, 3 of 3 places used\nstep 5: entry 2, fix of 1, 3 of 3 places used\nend: going after 5 steps\n",
     )
 }
 
