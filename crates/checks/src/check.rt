@@ -18,7 +18,7 @@ use tables::operand::COMPUTATION;
 
 // The role of a computation, else bottom.
 fn bound<S: Scheme>(scheme: &S, found: Entry) -> u64
-    ensures { result ≡ bound_in (meaning scheme.now) found }
+    ensures { result ≡ bound_in (S.meaning scheme.now) found }
 {
     if found.tag == COMPUTATION {
         found.third
@@ -35,8 +35,8 @@ fn check<S: Scheme>(
     types: &mut [Entry],
     terms: &[Entry],
 ) -> Result<u64, CheckFault>
-    ensures answer { result ≡ (check_of (meaning scheme.now) (meant system) counts.types counts.terms types.old terms.now).answer }
-    ensures table { types.new ≡ (check_of (meaning scheme.now) (meant system) counts.types counts.terms types.old terms.now).table }
+    ensures answer { result ≡ (check_of (S.meaning scheme.now) (meant system) counts.types counts.terms types.old terms.now).answer }
+    ensures table { types.new ≡ (check_of (S.meaning scheme.now) (meant system) counts.types counts.terms types.old terms.now).table }
 {
     form(scheme, counts, types, terms)?;
     let n = counts.terms as usize;
@@ -52,9 +52,9 @@ pub fn check_sufficient<S: Scheme>(
     types: &mut [Entry],
     terms: &[Entry],
 ) -> Result<Clearance, CheckFault>
-    ensures answer { result ≡ cleared (check_of (meaning scheme.now) sufficient counts.types counts.terms types.old terms.now).answer }
-    ensures table { types.new ≡ (check_of (meaning scheme.now) sufficient counts.types counts.terms types.old terms.now).table }
-    ensures sense { Says (meaning scheme.now) sufficient (job_term counts.types counts.terms types.old terms.now) (plain result) }
+    ensures answer { result ≡ cleared (check_of (S.meaning scheme.now) sufficient counts.types counts.terms types.old terms.now).answer }
+    ensures table { types.new ≡ (check_of (S.meaning scheme.now) sufficient counts.types counts.terms types.old terms.now).table }
+    ensures sense { Says (S.meaning scheme.now) sufficient (job_term counts.types counts.terms types.old terms.now) (plain result) }
     ensures within { Within counts.types (counts.types + counts.terms) types.old types.new }
 {
     clear(check(scheme, System::Sufficient, counts, types, terms))
@@ -68,9 +68,9 @@ pub fn check_necessary<S: Scheme>(
     types: &mut [Entry],
     terms: &[Entry],
 ) -> Result<u64, CheckFault>
-    ensures answer { result ≡ (check_of (meaning scheme.now) necessary counts.types counts.terms types.old terms.now).answer }
-    ensures table { types.new ≡ (check_of (meaning scheme.now) necessary counts.types counts.terms types.old terms.now).table }
-    ensures sense { Says (meaning scheme.now) necessary (job_term counts.types counts.terms types.old terms.now) result }
+    ensures answer { result ≡ (check_of (S.meaning scheme.now) necessary counts.types counts.terms types.old terms.now).answer }
+    ensures table { types.new ≡ (check_of (S.meaning scheme.now) necessary counts.types counts.terms types.old terms.now).table }
+    ensures sense { Says (S.meaning scheme.now) necessary (job_term counts.types counts.terms types.old terms.now) result }
     ensures within { Within counts.types (counts.types + counts.terms) types.old types.new }
 {
     check(scheme, System::Necessary, counts, types, terms)

@@ -21,7 +21,7 @@ pub(crate) struct Pair {
 
 // The role test of a system, forward or back.
 fn role_test<S: Scheme>(scheme: &S, system: System, forward: bool, a: u64, b: u64) -> bool
-    ensures { result ≡ role_test_way (meaning scheme.now) (meant system) forward a b }
+    ensures { result ≡ role_test_way (S.meaning scheme.now) (meant system) forward a b }
 {
     let upward = match system {
         System::Sufficient => !forward,
@@ -36,7 +36,7 @@ fn role_test<S: Scheme>(scheme: &S, system: System, forward: bool, a: u64, b: u6
 
 // Do two types agree in all but the types that they name?
 fn alike<S: Scheme>(scheme: &S, system: System, forward: bool, x: Entry, y: Entry) -> bool
-    ensures { result ≡ alike_of (meaning scheme.now) (meant system) forward x y }
+    ensures { result ≡ alike_of (S.meaning scheme.now) (meant system) forward x y }
 {
     if x.tag != y.tag {
         false
@@ -58,8 +58,8 @@ pub(crate) fn below<S: Scheme>(
     a: u32,
     b: u32,
 ) -> bool
-    requires { (used ≤ length types.now) × ((used ≤ 2048) × ((a < used) × ((b < used) × (Grounded (meaning scheme.now).role types.now used)))) }
-    ensures { result ≡ rule.below (meaning scheme.now) (meant system) types.now a b }
+    requires { (used ≤ length types.now) × ((used ≤ 2048) × ((a < used) × ((b < used) × (Grounded (S.meaning scheme.now).role types.now used)))) }
+    ensures { result ≡ rule.below (S.meaning scheme.now) (meant system) types.now a b }
 {
     let mut pairs = [Pair {
         left: a,

@@ -52,8 +52,8 @@ fn applied<S: Scheme>(
     f: u32,
     x: u32,
 ) -> Finding
-    requires { (used ≤ length types.now) × ((used ≤ 2048) × ((f < used) × ((x < used) × (Grounded (meaning scheme.now).role types.now used)))) }
-    ensures { result ≡ rule.applied (meaning scheme.now) (meant system) place types.now f x }
+    requires { (used ≤ length types.now) × ((used ≤ 2048) × ((f < used) × ((x < used) × (Grounded (S.meaning scheme.now).role types.now used)))) }
+    ensures { result ≡ rule.applied (S.meaning scheme.now) (meant system) place types.now f x }
 {
     let function = types[f as usize];
     if function.tag != FUNCTION {
@@ -74,8 +74,8 @@ fn fixed<S: Scheme>(
     used: u32,
     f: u32,
 ) -> Finding
-    requires { (used ≤ length types.now) × ((used ≤ 2048) × ((f < used) × (Grounded (meaning scheme.now).role types.now used))) }
-    ensures { result ≡ rule.fixed (meaning scheme.now) (meant system) place types.now f }
+    requires { (used ≤ length types.now) × ((used ≤ 2048) × ((f < used) × (Grounded (S.meaning scheme.now).role types.now used))) }
+    ensures { result ≡ rule.fixed (S.meaning scheme.now) (meant system) place types.now f }
 {
     let function = types[f as usize];
     if function.tag != FUNCTION {
@@ -100,8 +100,8 @@ fn checked(place: u32, body: Entry) -> Finding
 
 // The rule of a let whose first operand is a computation.
 fn joined<S: Scheme>(scheme: &S, place: u32, first: Entry, second: Entry) -> Finding
-    requires { second.tag ≡ 4 → is_some ((meaning scheme.now).join first.third second.third) ≡ true }
-    ensures { result ≡ rule.joined_as (meaning scheme.now) place first second }
+    requires { second.tag ≡ 4 → is_some ((S.meaning scheme.now).join first.third second.third) ≡ true }
+    ensures { result ≡ rule.joined_as (S.meaning scheme.now) place first second }
 {
     if second.tag == COMPUTATION {
         let role = scheme.join(first.third, second.third).unwrap();
@@ -113,8 +113,8 @@ fn joined<S: Scheme>(scheme: &S, place: u32, first: Entry, second: Entry) -> Fin
 
 // The rule of a raise by a role.
 fn raised<S: Scheme>(scheme: &S, place: u32, by: u64, body: Entry) -> Finding
-    requires { body.tag ≡ 4 → is_some ((meaning scheme.now).remainder body.third by) ≡ true }
-    ensures { result ≡ rule.raised_as (meaning scheme.now) place by body }
+    requires { body.tag ≡ 4 → is_some ((S.meaning scheme.now).remainder body.third by) ≡ true }
+    ensures { result ≡ rule.raised_as (S.meaning scheme.now) place by body }
 {
     if body.tag == COMPUTATION {
         let role = scheme.remainder(body.third, by).unwrap();
@@ -126,7 +126,7 @@ fn raised<S: Scheme>(scheme: &S, place: u32, by: u64, body: Entry) -> Finding
 
 // For sufficiency a restriction has to dominate the role of its body.
 fn permitted<S: Scheme>(scheme: &S, system: System, to: u64, role: u64) -> bool
-    ensures { result ≡ permits (meaning scheme.now) (meant system) to role }
+    ensures { result ≡ permits (S.meaning scheme.now) (meant system) to role }
 {
     match system {
         System::Sufficient => scheme.dominates(to, role),
@@ -136,7 +136,7 @@ fn permitted<S: Scheme>(scheme: &S, system: System, to: u64, role: u64) -> bool
 
 // The rule of a restriction to a role.
 fn restricted<S: Scheme>(scheme: &S, system: System, place: u32, to: u64, body: Entry) -> Finding
-    ensures { result ≡ rule.restricted_as (meaning scheme.now) (meant system) place to body }
+    ensures { result ≡ rule.restricted_as (S.meaning scheme.now) (meant system) place to body }
 {
     if body.tag != COMPUTATION {
         Finding::Refused(TypingFault::NoComputation { place })
@@ -159,8 +159,8 @@ pub(crate) fn judge<S: Scheme>(
     x: u32,
     bound: u32,
 ) -> Finding
-    requires { Ready (meaning scheme.now) types.now used e f x }
-    ensures { result ≡ judge_of (meaning scheme.now) (meant system) place types.now e f x bound }
+    requires { Ready (S.meaning scheme.now) types.now used e f x }
+    ensures { result ≡ judge_of (S.meaning scheme.now) (meant system) place types.now e f x bound }
 {
     match e.tag {
         VALUE => Finding::New(Entry {

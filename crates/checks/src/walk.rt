@@ -123,9 +123,9 @@ pub(crate) fn walk<S: Scheme>(
     types: &mut [Entry],
     terms: &[Entry],
 ) -> Result<u32, TypingFault>
-    requires { Walkable (meaning scheme.now) t types.old terms.now }
-    ensures answer { result ≡ told (walk_of (meaning scheme.now) (meant system) t terms.now (length terms.now - 1) [] types.old t) }
-    ensures table { types.new ≡ table_of (walk_of (meaning scheme.now) (meant system) t terms.now (length terms.now - 1) [] types.old t) }
+    requires { Walkable (S.meaning scheme.now) t types.old terms.now }
+    ensures answer { result ≡ told (walk_of (S.meaning scheme.now) (meant system) t terms.now (length terms.now - 1) [] types.old t) }
+    ensures table { types.new ≡ table_of (walk_of (S.meaning scheme.now) (meant system) t terms.now (length terms.now - 1) [] types.old t) }
     ensures there { (x : ℕ) → result ≡ Ok x → x < length types.new }
 {
     let root = terms.len() as u32 - 1;

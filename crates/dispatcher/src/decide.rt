@@ -37,7 +37,7 @@ impl Refusal {
 
 // Asks the questions in their order, then compares.
 fn compare<S: Scheme>(scheme: &S, codes: Codes) -> Decision
-    ensures { result ≡ compared (meaning scheme.now) codes }
+    ensures { result ≡ compared (S.meaning scheme.now) codes }
 {
     if let Err(fault) = ask_sound(scheme) {
         Decision::Refused(Refusal::Scheme(fault))
@@ -54,15 +54,15 @@ fn compare<S: Scheme>(scheme: &S, codes: Codes) -> Decision
 
 /// Decides on two codes under any scheme: may a job with this bound start under the role on duty?
 pub fn decide<S: Scheme>(scheme: &S, codes: Codes) -> Decision
-    ensures exact { result ≡ compared (meaning scheme.now) codes }
-    ensures starts { (result ≡ Decision.MayStart) ↔ ((meaning scheme.now).dom codes.on_duty codes.bound ≡ true) }
+    ensures exact { result ≡ compared (S.meaning scheme.now) codes }
+    ensures starts { (result ≡ Decision.MayStart) ↔ ((S.meaning scheme.now).dom codes.on_duty codes.bound ≡ true) }
 {
     compare(scheme, codes)
 }
 
 // The refusal of an input whose block is not followed by two codes and nothing else.
 fn refuse_length<S: Scheme>(scheme: &S, length: usize) -> Refusal
-    ensures { result ≡ wrong_length (meaning scheme.now) length }
+    ensures { result ≡ wrong_length (S.meaning scheme.now) length }
 {
     if let Err(fault) = ask_sound(scheme) {
         Refusal::Scheme(fault)

@@ -52,7 +52,7 @@ fn outline<S: Scheme>(
     types: usize,
     terms: usize,
 ) -> Result<Counts, ImageFault>
-    ensures { result ≡ told (outline_asked (meaning scheme.now) image.now (types_told image.now) (terms_told image.now) types terms) (counts_told image.now) }
+    ensures { result ≡ told (outline_asked (S.meaning scheme.now) image.now (types_told image.now) (terms_told image.now) types terms) (counts_told image.now) }
 {
     sound(scheme)?;
     let counts = counts_told(image)?;
@@ -68,8 +68,8 @@ fn outline<S: Scheme>(
 
 // The questions to the entries of an image, which are decoded into tables of our own.
 fn examine<S: Scheme>(scheme: &S, image: &[u8], counts: Counts) -> Result<(), FormFault>
-    requires { Outlined (meaning scheme.now) image.now counts.types counts.terms }
-    ensures { result ≡ entries_asked (meaning scheme.now).role (types_in image.now counts.types counts.terms) (terms_in image.now counts.types counts.terms) }
+    requires { Outlined (S.meaning scheme.now) image.now counts.types counts.terms }
+    ensures { result ≡ entries_asked (S.meaning scheme.now).role (types_in image.now counts.types counts.terms) (terms_in image.now counts.types counts.terms) }
 {
     let mut types = [NO_ENTRY; 1536];
     let mut terms = [NO_ENTRY; 1024];
@@ -85,9 +85,9 @@ pub fn read<S: Scheme>(
     types: &mut [Entry],
     terms: &mut [Entry],
 ) -> Result<Counts, ImageFault>
-    ensures answer { result ≡ read_told (meaning scheme.now) image.now (length types.old) (length terms.old) }
-    ensures types { types.new ≡ types_left (meaning scheme.now) image.now types.old terms.old }
-    ensures terms { terms.new ≡ terms_left (meaning scheme.now) image.now types.old terms.old }
+    ensures answer { result ≡ read_told (S.meaning scheme.now) image.now (length types.old) (length terms.old) }
+    ensures types { types.new ≡ types_left (S.meaning scheme.now) image.now types.old terms.old }
+    ensures terms { terms.new ≡ terms_left (S.meaning scheme.now) image.now types.old terms.old }
 {
     let counts = outline(scheme, image, types.len(), terms.len())?;
     examine(scheme, image, counts)?;

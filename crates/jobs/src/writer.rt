@@ -18,8 +18,8 @@ pub fn write<S: Scheme>(
     terms: &[Entry],
     out: &mut [u8],
 ) -> Result<(), ImageFault>
-    ensures answer { result ≡ write_asked (meaning scheme.now) counts.types counts.terms types.now terms.now (length out.old) }
-    ensures out { out.new ≡ out_left (meaning scheme.now) counts.types counts.terms types.now terms.now out.old }
+    ensures answer { result ≡ write_asked (S.meaning scheme.now) counts.types counts.terms types.now terms.now (length out.old) }
+    ensures out { out.new ≡ out_left (S.meaning scheme.now) counts.types counts.terms types.now terms.now out.old }
 {
     form(scheme, counts, types, terms)?;
     let length = out.len();

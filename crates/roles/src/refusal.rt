@@ -25,7 +25,7 @@ impl SchemeFault {
 
 /// Asks what every call with a scheme asks first: is it sound?
 pub fn ask_sound<S: Scheme>(scheme: &S) -> Result<(), SchemeFault>
-    ensures { is_ok result ≡ (meaning scheme.now).sound }
+    ensures { is_ok result ≡ (S.meaning scheme.now).sound }
 {
     if scheme.sound() {
         Ok(())

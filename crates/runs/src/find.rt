@@ -88,7 +88,7 @@ fn act_here(ok: bool, context: u64, e: Entry, f: Entry, at: u32) -> Found
 
 // The context role within the first operand of `e`.
 fn inner_role<S: Scheme>(scheme: &S, context: u64, e: Entry) -> Option<u64>
-    ensures { result ≡ role_within (meaning scheme.now) context e }
+    ensures { result ≡ role_within (S.meaning scheme.now) context e }
 {
     match e.tag {
         RAISE => scheme.join(e.third, context),
@@ -119,7 +119,7 @@ pub(crate) fn find<S: Scheme>(
     at: u32,
 ) -> Found
     requires { (Ground (take base terms.now)) × ((base ≤ length terms.now) × ((at < base) × (closed 0 (tree (take base terms.now) at) ≡ true))) }
-    ensures met { step (meaning scheme.now) context (tree (take base terms.now) at) ≡ met_of (take base terms.now) at result }
+    ensures met { step (S.meaning scheme.now) context (tree (take base terms.now) at) ≡ met_of (take base terms.now) at result }
     ensures rests { is_ready result ≡ true → value_tag (slice_index_or terms.now at no_entry).tag ≡ true }
     ensures short { path_of result ≤ at }
     ensures fits { FoundFits (take base terms.now) at result }

@@ -50,7 +50,7 @@ fn ask_start<S: Scheme>(
     terms: &[Entry],
     role: u64,
 ) -> Result<(), StartFault>
-    ensures { result ≡ start_asked (meaning scheme.now) counts types.now terms.now role }
+    ensures { result ≡ start_asked (S.meaning scheme.now) counts types.now terms.now role }
 {
     form(scheme, counts, types, terms)?;
     if scheme.is_role(role) {
@@ -68,7 +68,7 @@ pub fn rehearse<S: Scheme>(
     terms: &[Entry],
     role: u64,
 ) -> Result<Run, StartFault>
-    ensures { result ≡ started (start_asked (meaning scheme.now) counts types.now terms.now role) counts.terms role }
+    ensures { result ≡ started (start_asked (S.meaning scheme.now) counts types.now terms.now role) counts.terms role }
 {
     ask_start(scheme, counts, types, terms, role)?;
     Ok(Run {
@@ -121,7 +121,7 @@ impl Run {
         reach: &mut [u16],
     ) -> Result<(), RunFault>
         requires { length reach.old ≡ 16384 }
-        ensures asked { result ≡ asked_first (refusal (meaning scheme.now) self.now terms.now budget) }
+        ensures asked { result ≡ asked_first (refusal (S.meaning scheme.now) self.now terms.now budget) }
         ensures live { is_ok result ≡ true → Live terms.now reach.new self.now.used self.now.current }
         ensures below { is_ok result ≡ true → self.now.steps + budget < 2 ^ 32 }
     {
@@ -175,7 +175,7 @@ impl Run {
         budget: u32,
     ) -> u32
         requires { (Live terms.old reach.old self.old.used self.old.current) × ((length terms.old + 1 < 2 ^ 32) × ((self.old.steps + budget < 2 ^ 32) × (ends self.old.condition ≡ false))) }
-        ensures { Went (meaning scheme.now) budget self.old self.new terms.old terms.new result }
+        ensures { Went (S.meaning scheme.now) budget self.old self.new terms.old terms.new result }
     {
         for made in 0..budget {
             let met = turn_live(scheme, self.role, terms, reach, self.current, self.used);
@@ -195,11 +195,11 @@ impl Run {
         terms: &mut [Entry],
         budget: u64,
     ) -> Result<Progress, RunFault>
-        ensures answer { result ≡ answered (refusal (meaning scheme.now) self.old terms.old budget) (gone (meaning scheme.now) self.old terms.old budget) }
-        ensures run { self.new ≡ run_after (refusal (meaning scheme.now) self.old terms.old budget) self.old (gone (meaning scheme.now) self.old terms.old budget) }
-        ensures table { terms.new ≡ terms_after (refusal (meaning scheme.now) self.old terms.old budget) terms.old (gone (meaning scheme.now) self.old terms.old budget) }
-        ensures meaning { Meant (meaning scheme.now) self.old self.new terms.old terms.new budget result }
-        ensures parts { InParts (meaning scheme.now) self.old self.new terms.old terms.new budget }
+        ensures answer { result ≡ answered (refusal (S.meaning scheme.now) self.old terms.old budget) (gone (S.meaning scheme.now) self.old terms.old budget) }
+        ensures run { self.new ≡ run_after (refusal (S.meaning scheme.now) self.old terms.old budget) self.old (gone (S.meaning scheme.now) self.old terms.old budget) }
+        ensures table { terms.new ≡ terms_after (refusal (S.meaning scheme.now) self.old terms.old budget) terms.old (gone (S.meaning scheme.now) self.old terms.old budget) }
+        ensures meaning { Meant (S.meaning scheme.now) self.old self.new terms.old terms.new budget result }
+        ensures parts { InParts (S.meaning scheme.now) self.old self.new terms.old terms.new budget }
     {
         let mut reach = [0u16; 16384];
         self.ask(scheme, terms, budget, &mut reach)?;

@@ -126,7 +126,7 @@ fn turn_at<S: Scheme>(
 ) -> Turned
     requires form { (Ground (take used terms.old)) × ((Known (take used terms.old) reach.now) × (closed 0 (tree (take used terms.old) current) ≡ true)) }
     requires fits { (used ≤ length terms.old) × ((used ≤ length reach.now) × ((length terms.old + 1 < 2 ^ 32) × (current < used))) }
-    ensures { TurnIs (meaning scheme.now) role terms.old terms.new used current result }
+    ensures { TurnIs (S.meaning scheme.now) role terms.old terms.new used current result }
 {
     match find(scheme, role, terms, used, current) {
         Found::Ready => Turned::Rests,
@@ -156,7 +156,7 @@ pub(crate) fn turn_live<S: Scheme>(
     used: u32,
 ) -> Turned
     requires { (Live terms.old reach.old used current) × (length terms.old + 1 < 2 ^ 32) }
-    ensures is { TurnIs (meaning scheme.now) role terms.old terms.new used current result }
+    ensures is { TurnIs (S.meaning scheme.now) role terms.old terms.new used current result }
     ensures live { LiveAfter terms.new reach.new used current result }
 {
     match turn_at(scheme, role, terms, reach, current, used) {

@@ -23,7 +23,7 @@ fn plain_fits(e: Entry, i: u32) -> bool
 
 // Has term `i` a tag of a term, operands as it asks, and a role for a role code?
 fn passes<S: Scheme>(scheme: &S, e: Entry, i: u32) -> bool
-    ensures { result ≡ spec.passes (meaning scheme.now).role e i }
+    ensures { result ≡ spec.passes (S.meaning scheme.now).role e i }
 {
     is_term(e.tag) && plain_fits(e, i) && role_is(scheme, e)
 }
@@ -31,7 +31,7 @@ fn passes<S: Scheme>(scheme: &S, e: Entry, i: u32) -> bool
 // Do the used entries pass? Their reaches are filled in on the way.
 fn scan<S: Scheme>(scheme: &S, terms: &[Entry], used: u32, reach: &mut [u16]) -> bool
     requires { (used ≤ length terms.now) × (used ≤ length reach.old) }
-    ensures passed { result ≡ all_pass (meaning scheme.now).role terms.now used 0 }
+    ensures passed { result ≡ all_pass (S.meaning scheme.now).role terms.now used 0 }
     ensures known { result ≡ true → Known (take used terms.now) reach.new }
 {
     for i in 0..used {
@@ -53,7 +53,7 @@ pub(crate) fn usable<S: Scheme>(
     reach: &mut [u16],
 ) -> bool
     requires { length reach.old ≡ 16384 }
-    ensures is { result ≡ spec.usable (meaning scheme.now).role terms.now used current }
+    ensures is { result ≡ spec.usable (S.meaning scheme.now).role terms.now used current }
     ensures live { result ≡ true → Live terms.now reach.new used current }
 {
     let n = terms.len();

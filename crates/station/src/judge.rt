@@ -58,7 +58,7 @@ fn check_both<S: Scheme>(
     types: &mut [Entry],
     terms: &[Entry],
 ) -> Verdict
-    ensures { result ≡ checked_both (meaning scheme.now) counts.types counts.terms types.old terms.now }
+    ensures { result ≡ checked_both (S.meaning scheme.now) counts.types counts.terms types.old terms.now }
 {
     let sufficient = told(give_up(check_sufficient(scheme, counts, types, terms)));
     let necessary = told(check_necessary(scheme, counts, types, terms));
@@ -70,7 +70,7 @@ fn check_both<S: Scheme>(
 
 // Reads the image into tables of our own, and checks what was read.
 fn read_and_check<S: Scheme>(scheme: &S, image: &[u8]) -> Verdict
-    ensures { result ≡ image_verdict (meaning scheme.now) image.now }
+    ensures { result ≡ image_verdict (S.meaning scheme.now) image.now }
 {
     let mut types = [NO_ENTRY; 1536];
     let mut terms = [NO_ENTRY; 1024];
@@ -82,8 +82,8 @@ fn read_and_check<S: Scheme>(scheme: &S, image: &[u8]) -> Verdict
 
 /// The verdict on an image under a scheme.
 pub fn judge_image<S: Scheme>(scheme: &S, image: &[u8]) -> Verdict
-    ensures exact { result ≡ image_verdict (meaning scheme.now) image.now }
-    ensures sense { ImageMeans (meaning scheme.now) image.now result }
+    ensures exact { result ≡ image_verdict (S.meaning scheme.now) image.now }
+    ensures sense { ImageMeans (S.meaning scheme.now) image.now result }
 {
     read_and_check(scheme, image)
 }

@@ -15,7 +15,7 @@ use roles::scheme::Scheme;
 
 /// Is the scheme sound?
 pub fn sound<S: Scheme>(scheme: &S) -> Result<(), FormFault>
-    ensures { result ≡ spec.sound_asked (meaning scheme.now) }
+    ensures { result ≡ spec.sound_asked (S.meaning scheme.now) }
 {
     ask_sound(scheme)?;
     Ok(())
@@ -45,7 +45,7 @@ pub fn room(counts: Counts, types: usize, terms: usize) -> Result<(), FormFault>
 // The questions of tag, operands and role to each term, lowest first, in a job of `t` types.
 fn ask_terms<S: Scheme>(scheme: &S, t: u32, terms: &[Entry]) -> Result<(), FormFault>
     requires { (t ≤ 512) × (length terms.now ≤ 1024) }
-    ensures { result ≡ of_each (ask_term (meaning scheme.now).role t terms.now) (length terms.now) 0 }
+    ensures { result ≡ of_each (ask_term (S.meaning scheme.now).role t terms.now) (length terms.now) 0 }
 {
     let n = terms.len() as u32;
     for i in 0..n {
@@ -57,7 +57,7 @@ fn ask_terms<S: Scheme>(scheme: &S, t: u32, terms: &[Entry]) -> Result<(), FormF
 // The questions to the entries of a job that is all of two tables.
 fn ask_entries<S: Scheme>(scheme: &S, types: &[Entry], terms: &[Entry]) -> Result<(), FormFault>
     requires { (length types.now ≤ 512) × ((1 ≤ length terms.now) × (length terms.now ≤ 1024)) }
-    ensures { result ≡ spec.entries_asked (meaning scheme.now).role types.now terms.now }
+    ensures { result ≡ spec.entries_asked (S.meaning scheme.now).role types.now terms.now }
 {
     let t = types.len() as u32;
     ask_types(scheme, types)?;
@@ -73,7 +73,7 @@ pub fn form<S: Scheme>(
     types: &[Entry],
     terms: &[Entry],
 ) -> Result<(), FormFault>
-    ensures { result ≡ spec.form (meaning scheme.now) counts.types counts.terms types.now terms.now }
+    ensures { result ≡ spec.form (S.meaning scheme.now) counts.types counts.terms types.now terms.now }
 {
     sound(scheme)?;
     few(counts)?;

@@ -117,14 +117,14 @@ pub fn term_fits(e: Entry, i: u32, t: u32) -> bool
 
 /// If the entry has a role code, is it a role?
 pub fn role_is<S: Scheme>(scheme: &S, e: Entry) -> bool
-    ensures { result ≡ role_fits (meaning scheme.now).role e }
+    ensures { result ≡ role_fits (S.meaning scheme.now).role e }
 {
     !has_role(e.tag) || scheme.is_role(e.third)
 }
 
 /// The questions of tag, operands and role to type `i`.
 pub(crate) fn ask_type<S: Scheme>(scheme: &S, e: Entry, i: u32) -> Result<(), FormFault>
-    ensures { result ≡ type_asked (meaning scheme.now).role e i }
+    ensures { result ≡ type_asked (S.meaning scheme.now).role e i }
 {
     ask(
         is_type(e.tag),
@@ -151,7 +151,7 @@ pub(crate) fn ask_term<S: Scheme>(
     t: u32,
     place: u32,
 ) -> Result<(), FormFault>
-    ensures { result ≡ term_asked (meaning scheme.now).role e i t place }
+    ensures { result ≡ term_asked (S.meaning scheme.now).role e i t place }
 {
     ask(is_term(e.tag), FormFault::Tag { place, tag: e.tag })?;
     ask(term_fits(e, i, t), FormFault::Operands { place })?;

@@ -25,7 +25,7 @@ fn written_out(e: Entry, i: u32, sizes: &[u32]) -> u32
 /// The questions to each type, lowest first: tag, operands, role and size.
 pub(crate) fn ask_types<S: Scheme>(scheme: &S, types: &[Entry]) -> Result<(), FormFault>
     requires { length types.now ≤ 512 }
-    ensures { result ≡ of_each (ask_type (meaning scheme.now).role types.now) (length types.now) 0 }
+    ensures { result ≡ of_each (ask_type (S.meaning scheme.now).role types.now) (length types.now) 0 }
 {
     let mut sizes = [0u32; 512];
     let t = types.len() as u32;

@@ -22,5 +22,5 @@ returns-in-err-ask c =
 
 pub loop-i-preserved : goal.loop-i-preserved
 loop-i-preserved c =
-    let q = asked c.args.t c.loop-i.i c.args.terms.now c.find-depths-depths.result c.is-bound-bound.result c.find-depths-depths.ensures c.is-bound-bound.ensures in
-    sym (each_ok (ask_bound c.args.t c.args.terms.now) _ _ _ c.loop-i-test.true (c.in-ok-ask.ensures ∙ q)) ∙ c.loop-i.invariant
+    let q = asked c.args.t c.loop-i.i c.args.terms.now c.find_depths-depths.result c.is_bound-bound.result c.find_depths-depths.ensures c.is_bound-bound.ensures in
+    sym (each_ok (ask_bound c.args.t c.args.terms.now) _ _ _ c.loop-i-test.true (c.in_ok-ask.ensures ∙ q)) ∙ c.loop-i.invariant

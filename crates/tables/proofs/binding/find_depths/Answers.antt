@@ -43,7 +43,7 @@ loop-i-preserved c =
     let i : ℕ = c.loop-i.i - 1 in
     let e : Entry = at c.args.terms.now i in
     let d : ℕ = get_or c.loop-i.depths i 0 in
-    let after : c.hand_second.new.depths ≡ hand e d c.loop-i.depths = c.hand_second.ensures ∙ ap (hand_second e d) c.hand-first.ensures in (
+    let after : c.hand_second.new.depths ≡ hand e d c.loop-i.depths = c.hand_second.ensures ∙ ap (hand_second e d) c.hand_first.ensures in (
       ap length after ∙ (length_second e d (hand_first e d c.loop-i.depths) ∙ (length_first e d c.loop-i.depths ∙ c.loop-i.invariant.0)),
       after ∙ more c.args.terms.now c.loop-i.depths c.loop-i.i i (omega arith) (omega arith) c.loop-i.invariant.1,
     )

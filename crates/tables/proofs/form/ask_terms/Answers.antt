@@ -11,4 +11,4 @@ returns-in-err-ask-term g c =
 
 pub loop-i-preserved : goal.loop-i-preserved
 loop-i-preserved g c =
-    sym (each_ok (ask_term (g.S.Scheme.meaning c.args.scheme.now).role c.args.t c.args.terms.now) _ _ _ c.loop-i-test.true c.in-ok-ask-term.ensures) ∙ c.loop-i.invariant
+    sym (each_ok (ask_term (g.S.Scheme.meaning c.args.scheme.now).role c.args.t c.args.terms.now) _ _ _ c.loop-i-test.true c.in_ok-ask_term.ensures) ∙ c.loop-i.invariant

@@ -43,11 +43,11 @@ loop-i-preserved g c =
     let role : ℕ → Bool = (g.S.Scheme.meaning c.args.scheme.now).role in
     let T : List Entry = c.args.types.now in
     let i : ℕ = c.loop-i.i in
-    let v : ℕ = c.written-out-size.result in
-    let is : v ≡ size T i = c.written-out-size.ensures ∙ size_is T c.loop-i.sizes i (type_yes role (at T i) i (sym c.in-ok-ask-type.ensures)).1 c.loop-i.invariant.1 in
+    let v : ℕ = c.written_out-size.result in
+    let is : v ≡ size T i = c.written_out-size.ensures ∙ size_is T c.loop-i.sizes i (type_yes role (at T i) i (sym c.in_ok-ask_type.ensures)).1 c.loop-i.invariant.1 in
     let room : i < length c.loop-i.sizes = omega (arith, c.loop-i.invariant.0) in (
       length-set c.loop-i.sizes i v ∙ c.loop-i.invariant.0,
       ap (λ x. take (i + 1) (set c.loop-i.sizes i x)) is ∙ sizes_more T c.loop-i.sizes i room c.loop-i.invariant.1,
-      small c.loop-i.sizes i v room (leb-true v 4096 (asks_yes (leb v 4096) (Size i v) (sym c.in-ok-ask.ensures))) c.loop-i.invariant.2,
-      sym (each_ok (ask_type role T) (length T) i _ c.loop-i-test.true (c.in-ok-ask.ensures ∙ (asked i _ _ is ∙ sym (and_ok _ _ _ c.in-ok-ask-type.ensures)))) ∙ c.loop-i.invariant.3,
+      small c.loop-i.sizes i v room (leb-true v 4096 (asks_yes (leb v 4096) (Size i v) (sym c.in_ok-ask.ensures))) c.loop-i.invariant.2,
+      sym (each_ok (ask_type role T) (length T) i _ c.loop-i-test.true (c.in_ok-ask.ensures ∙ (asked i _ _ is ∙ sym (and_ok _ _ _ c.in_ok-ask_type.ensures)))) ∙ c.loop-i.invariant.3,
     )

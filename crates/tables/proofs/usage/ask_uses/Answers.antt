@@ -19,5 +19,5 @@ returns-in-err-ask c =
 
 pub loop-i-preserved : goal.loop-i-preserved
 loop-i-preserved c =
-    let q = asked (c.args.t + c.loop-i.i) _ _ (c.count-all-counts.ensures c.loop-i.i) in
-    sym (each_ok (ask_use c.args.t c.args.terms.now) _ _ _ c.loop-i-test.true (c.in-ok-ask.ensures ∙ q)) ∙ c.loop-i.invariant
+    let q = asked (c.args.t + c.loop-i.i) _ _ (c.count_all-counts.ensures c.loop-i.i) in
+    sym (each_ok (ask_use c.args.t c.args.terms.now) _ _ _ c.loop-i-test.true (c.in_ok-ask.ensures ∙ q)) ∙ c.loop-i.invariant
