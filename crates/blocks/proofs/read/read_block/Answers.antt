@@ -8,4 +8,4 @@ pub returns : goal.returns
 returns c =
     let bytes = c.args.bytes.now in
     let long : ltb (length bytes) 2 ≡ false = le-ltb _ _ (omega arith) in
-    c.read-kind.ensures ∙ ap (block_by (get_or bytes 0 0) (get_or bytes 1 0)) (take_rest bytes 2) ∙ sym (cond-false (ltb (length bytes) 2) _ _ long)
+    c.read_kind.ensures ∙ ap (block_by (get_or bytes 0 0) (get_or bytes 1 0)) (take_rest bytes 2) ∙ sym (cond-false (ltb (length bytes) 2) _ _ long)

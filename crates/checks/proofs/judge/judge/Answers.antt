@@ -35,8 +35,8 @@ returns-in-25 g c = c.raised.ensures ∙ sym (judge_25 (g.S.Scheme.meaning c.arg
 pub returns-in-23 : goal.returns-in-23
 returns-in-23 g c = ap New (c.computation.ensures ∙ ap (λ a. computation_type a c.args.x) c.bottom.ensures) ∙ sym (judge_23 (g.S.Scheme.meaning c.args.scheme.now) (meant c.args.system) c.args.place c.args.types.now c.args.e c.args.f c.args.x c.args.bound c.in-23.is)
 
-pub returns-in-default : goal.returns-in-default
-returns-in-default g c = let l = c.requires.own.3.least in let h = c.requires.own.3.most in let z : c.args.e.tag ≡ 26 = omega arith in c.restricted.ensures ∙ sym (judge_26 (g.S.Scheme.meaning c.args.scheme.now) (meant c.args.system) c.args.place c.args.types.now c.args.e c.args.f c.args.x c.args.bound z)
+pub returns-in_default : goal.returns-in_default
+returns-in_default g c = let l = c.requires.own.3.least in let h = c.requires.own.3.most in let z : c.args.e.tag ≡ 26 = omega arith in c.restricted.ensures ∙ sym (judge_26 (g.S.Scheme.meaning c.args.scheme.now) (meant c.args.system) c.args.place c.args.types.now c.args.e c.args.f c.args.x c.args.bound z)
 
 pub joined-requires : goal.joined-requires
 joined-requires g c κs z = let_there (g.S.Scheme.meaning c.args.scheme.now) (g.met.S.Scheme.lawful c.args.scheme.now) (meant c.args.system) c.args.place c.args.types.now c.args.used c.args.e c.args.f c.args.x c.requires c.in-24.is z

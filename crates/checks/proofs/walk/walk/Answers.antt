@@ -38,11 +38,11 @@ binder-requires g c = (
   (λ z. let p = ((placed (g.S.Scheme.meaning c.args.scheme.now) (g.met.S.Scheme.lawful c.args.scheme.now) (meant c.args.system) c.args.t c.args.types.now c.args.terms.now c.requires (length c.args.terms.now - 1) (omega (arith, c.requires.some)) c.loop-top.types c.loop-top.used c.loop-top.last c.loop-top.frames c.loop-top.binders c.loop-top.top (c.loop-top.top - 1) (omega arith) c.loop-top.invariant.0).claim z).1 in let s = c.requires.small in omega arith),
 )
 
-pub loop-top-smaller-then-frame-named-terms : goal.loop-top-smaller-then-frame-named-terms
-loop-top-smaller-then-frame-named-terms g c = let s = pushed_sum (g.S.Scheme.meaning c.args.scheme.now) (g.met.S.Scheme.lawful c.args.scheme.now) (meant c.args.system) c.args.t c.args.types.now c.args.terms.now c.requires (length c.args.terms.now - 1) (omega (arith, c.requires.some)) c.loop-top.types c.loop-top.used c.loop-top.last c.loop-top.frames c.loop-top.binders c.loop-top.top (c.loop-top.top - 1) (omega arith) c.loop-top.invariant.0 _ c.binder.result _ (omega arith) (sym c.if-not-enters.ensures) refl c.binder.ensures refl c.next.result c.enter.result c.next.ensures c.enter.ensures 1 in omega arith
+pub loop-top-smaller-then-frame-named_terms : goal.loop-top-smaller-then-frame-named_terms
+loop-top-smaller-then-frame-named_terms g c = let s = pushed_sum (g.S.Scheme.meaning c.args.scheme.now) (g.met.S.Scheme.lawful c.args.scheme.now) (meant c.args.system) c.args.t c.args.types.now c.args.terms.now c.requires (length c.args.terms.now - 1) (omega (arith, c.requires.some)) c.loop-top.types c.loop-top.used c.loop-top.last c.loop-top.frames c.loop-top.binders c.loop-top.top (c.loop-top.top - 1) (omega arith) c.loop-top.invariant.0 _ c.binder.result _ (omega arith) (sym c.if-not-enters.ensures) refl c.binder.ensures refl c.next.result c.enter.result c.next.ensures c.enter.ensures 1 in omega arith
 
-pub loop-top-preserved-then-frame-named-terms : goal.loop-top-preserved-then-frame-named-terms
-loop-top-preserved-then-frame-named-terms g c =
+pub loop-top-preserved-then-frame-named_terms : goal.loop-top-preserved-then-frame-named_terms
+loop-top-preserved-then-frame-named_terms g c =
     let s = pushed_sum (g.S.Scheme.meaning c.args.scheme.now) (g.met.S.Scheme.lawful c.args.scheme.now) (meant c.args.system) c.args.t c.args.types.now c.args.terms.now c.requires (length c.args.terms.now - 1) (omega (arith, c.requires.some)) c.loop-top.types c.loop-top.used c.loop-top.last c.loop-top.frames c.loop-top.binders c.loop-top.top (c.loop-top.top - 1) (omega arith) c.loop-top.invariant.0 _ c.binder.result _ (omega arith) (sym c.if-not-enters.ensures) refl c.binder.ensures refl c.next.result c.enter.result c.next.ensures c.enter.ensures 0 in
     let u = c.loop-top.invariant.1 in
     (pushed_fits (g.S.Scheme.meaning c.args.scheme.now) (g.met.S.Scheme.lawful c.args.scheme.now) (meant c.args.system) c.args.t c.args.types.now c.args.terms.now c.requires (length c.args.terms.now - 1) (omega (arith, c.requires.some)) c.loop-top.types c.loop-top.used c.loop-top.last c.loop-top.frames c.loop-top.binders c.loop-top.top (c.loop-top.top - 1) (omega arith) c.loop-top.invariant.0 _ c.binder.result _ (omega arith) (sym c.if-not-enters.ensures) refl c.binder.ensures refl c.next.result c.enter.result c.next.ensures c.enter.ensures, omega arith, pushed_pend (g.S.Scheme.meaning c.args.scheme.now) (g.met.S.Scheme.lawful c.args.scheme.now) (meant c.args.system) c.args.t c.args.types.now c.args.terms.now c.requires (length c.args.terms.now - 1) (omega (arith, c.requires.some)) c.loop-top.types c.loop-top.used c.loop-top.last c.loop-top.frames c.loop-top.binders c.loop-top.top (c.loop-top.top - 1) (omega arith) c.loop-top.invariant.0 _ c.binder.result _ (omega arith) (sym c.if-not-enters.ensures) refl c.binder.ensures refl c.next.result c.enter.result c.next.ensures c.enter.ensures ∙ c.loop-top.invariant.2)

@@ -5,4 +5,4 @@ use Rattle.jobs.proofs.encode.put64.Goals as goal
 
 pub returns : goal.returns
 returns c =
-    put_is c.args.p _ c.args.out.now c.copy-from-slice.new.self (bytes64 c.args.x) (c.copy-from-slice.ensures.after ∙ c.to-le-bytes.ensures) (omega arith)
+    put_is c.args.p _ c.args.out.now c.copy_from_slice.new.self (bytes64 c.args.x) (c.copy_from_slice.ensures.after ∙ c.to_le_bytes.ensures) (omega arith)

@@ -8,7 +8,7 @@ use Rattle.jobs.proofs.encode.put_table.Goals as goal
 
 pub loop-k-preserved : goal.loop-k-preserved
 loop-k-preserved c =
-    table_more c.loop-k.out c.put-operands.new.out (take c.args.p c.args.out.now) c.args.table.now c.args.p c.loop-k.k (omega arith) c.loop-k.invariant c.put-operands.ensures
+    table_more c.loop-k.out c.put_operands.new.out (take c.args.p c.args.out.now) c.args.table.now c.args.p c.loop-k.k (omega arith) c.loop-k.invariant c.put_operands.ensures
 
 pub returns : goal.returns
 returns c =

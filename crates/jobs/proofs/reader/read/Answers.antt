@@ -10,37 +10,37 @@ use Rattle.jobs.proofs.ReadSteps.{no_outline, shape, space, no_entries, accepted
 use Rattle.jobs.proofs.reader.read.Goals as goal
 
 pub examine-requires : goal.examine-requires
-examine-requires g c = shape _ c.args.image.now _ _ c.in-ok-counts.counts c.in-ok-counts.ensures
+examine-requires g c = shape _ c.args.image.now _ _ c.in_ok-counts.counts c.in_ok-counts.ensures
 
 pub decode-requires : goal.decode-requires
 decode-requires g c =
     let m : Meaning = g.S.Scheme.meaning c.args.scheme.now in
-    let o = shape m c.args.image.now _ _ c.in-ok-counts.counts c.in-ok-counts.ensures in
-    let r = space m c.args.image.now _ _ c.in-ok-counts.counts c.in-ok-counts.ensures in
+    let o = shape m c.args.image.now _ _ c.in_ok-counts.counts c.in_ok-counts.ensures in
+    let r = space m c.args.image.now _ _ c.in_ok-counts.counts c.in_ok-counts.ensures in
     (o.long, (omega (arith, r.types), r.terms))
 
-pub returns-in-err-counts : goal.returns-in-err-counts
-returns-in-err-counts g c =
+pub returns-in_err-counts : goal.returns-in_err-counts
+returns-in_err-counts g c =
     let m : Meaning = g.S.Scheme.meaning c.args.scheme.now in
     let bs : List ℕ = c.args.image.now in
     let T : List Entry = c.args.types.now in
     let M : List Entry = c.args.terms.now in
-    let p = err_from_is_err_and c.from-residual.result c.from-residual.ensures.1 in
-    let no = no_outline m bs (length T) (length M) _ c.in-err-counts.ensures in
+    let p = err_from_is_err_and c.from_residual.result c.from_residual.ensures.1 in
+    let no = no_outline m bs (length T) (length M) _ c.in_err-counts.ensures in
     record {
       answer = p.1 ∙ (ap Err p.2 ∙ sym (ap (λ z. told z (counts_told bs)) no));
       types = sym (ap (λ z. left z (filled (types_in bs (types_told bs) (terms_told bs)) T) T) no);
       terms = sym (ap (λ z. left z (filled (terms_in bs (types_told bs) (terms_told bs)) M) M) no);
     }
 
-pub returns-in-err-examine : goal.returns-in-err-examine
-returns-in-err-examine g c =
+pub returns-in_err-examine : goal.returns-in_err-examine
+returns-in_err-examine g c =
     let m : Meaning = g.S.Scheme.meaning c.args.scheme.now in
     let bs : List ℕ = c.args.image.now in
     let T : List Entry = c.args.types.now in
     let M : List Entry = c.args.terms.now in
-    let p = err_from_is_err_and c.from-residual-in-err-examine.result c.from-residual-in-err-examine.ensures.1 in
-    let no = no_entries m bs (length T) (length M) c.in-ok-counts.counts c.in-ok-counts.ensures _ c.in-err-examine.ensures in
+    let p = err_from_is_err_and c.from_residual-in_err-examine.result c.from_residual-in_err-examine.ensures.1 in
+    let no = no_entries m bs (length T) (length M) c.in_ok-counts.counts c.in_ok-counts.ensures _ c.in_err-examine.ensures in
     record {
       answer = p.1 ∙ (ap Err p.2 ∙ sym (ap (λ z. told z (counts_told bs)) no));
       types = sym (ap (λ z. left z (filled (types_in bs (types_told bs) (terms_told bs)) T) T) no);
@@ -53,10 +53,10 @@ returns g c =
     let bs : List ℕ = c.args.image.now in
     let T : List Entry = c.args.types.now in
     let M : List Entry = c.args.terms.now in
-    let k = c.in-ok-counts.counts in
-    let yes = accepted m bs (length T) (length M) k c.in-ok-counts.ensures _ c.in-ok-examine.ensures in
+    let k = c.in_ok-counts.counts in
+    let yes = accepted m bs (length T) (length M) k c.in_ok-counts.ensures _ c.in_ok-examine.ensures in
     record {
-      answer = ap Ok (told_value _ (counts_told bs) k c.in-ok-counts.ensures) ∙ sym (ap (λ z. told z (counts_told bs)) yes);
-      types = c.decode.ensures.types ∙ (types_filled m bs (length T) (length M) k c.in-ok-counts.ensures T ∙ sym (ap (λ z. left z (filled (types_in bs (types_told bs) (terms_told bs)) T) T) yes));
-      terms = c.decode.ensures.terms ∙ (terms_filled m bs (length T) (length M) k c.in-ok-counts.ensures M ∙ sym (ap (λ z. left z (filled (terms_in bs (types_told bs) (terms_told bs)) M) M) yes));
+      answer = ap Ok (told_value _ (counts_told bs) k c.in_ok-counts.ensures) ∙ sym (ap (λ z. told z (counts_told bs)) yes);
+      types = c.decode.ensures.types ∙ (types_filled m bs (length T) (length M) k c.in_ok-counts.ensures T ∙ sym (ap (λ z. left z (filled (types_in bs (types_told bs) (terms_told bs)) T) T) yes));
+      terms = c.decode.ensures.terms ∙ (terms_filled m bs (length T) (length M) k c.in_ok-counts.ensures M ∙ sym (ap (λ z. left z (filled (terms_in bs (types_told bs) (terms_told bs)) M) M) yes));
     }

@@ -22,7 +22,7 @@ returns g c =
     let T : List Entry = c.args.types.now in
     let M : List Entry = c.args.terms.now in
     let O : List ℕ = c.args.out.now in
-    let yes : write_asked m t n T M (length O) ≡ Ok tt = both _ _ _ _ c.in-ok-form.ensures (c.in-ok-ask.ensures ∙ ap (λ k. asks (eqb (length O) k) (Output (length O))) c.image_length.ensures) in
+    let yes : write_asked m t n T M (length O) ≡ Ok tt = both _ _ _ _ c.in_ok-form.ensures (c.in_ok-ask.ensures ∙ ap (λ k. asks (eqb (length O) k) (Output (length O))) c.image_length.ensures) in
     record {
       answer = sym yes;
       out = c.encode.ensures ∙ (ap₂ (λ (x y : ℕ). image (take x T) (take y M)) (sub-zero t) (sub-zero n) ∙ sym (ap (λ z. left z (image (take t T) (take n M)) O) yes));

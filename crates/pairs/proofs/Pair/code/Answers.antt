@@ -6,4 +6,4 @@ pub pack-requires : goal.pack-requires
 pack-requires g c =
     let lm = g.met.A.Scheme.lawful c.args.self.now.first in
     let ln = g.met.B.Scheme.lawful c.args.self.now.second in
-    placed _ _ lm ln (sym c.if-sound.ensures) _ _ _ c.width.ensures (sym c.if-is-role.ensures) (sym c.if-is-role-2.ensures)
+    placed _ _ lm ln (sym c.if-sound.ensures) _ _ _ c.width.ensures (sym c.if-is_role.ensures) (sym c.if-is_role-2.ensures)

@@ -7,4 +7,4 @@ pack-requires g c =
     let lm = g.met.A.Scheme.lawful c.args.self.now.first in
     let ln = g.met.B.Scheme.lawful c.args.self.now.second in
     placed _ _ lm ln (sym c.if-sound.ensures) _ _ _ c.width-w.ensures
-    (lm.remainder_role _ _ _ (sym c.remainder.ensures ∙ c.in-ok-x.was)) (ln.remainder_role _ _ _ (sym c.remainder-then-sound.ensures ∙ c.in-ok-y.was))
+    (lm.remainder_role _ _ _ (sym c.remainder.ensures ∙ c.in_ok-x.was)) (ln.remainder_role _ _ _ (sym c.remainder-then-sound.ensures ∙ c.in_ok-y.was))

@@ -1,4 +1,4 @@
 use Rattle.runs.proofs.copy.+count_on.Given as goal
 
-abbrev pub decreases-count-on : goal.decreases-count-on
-decreases-count-on l = l.at
+abbrev pub decreases-count_on : goal.decreases-count_on
+decreases-count_on l = l.at

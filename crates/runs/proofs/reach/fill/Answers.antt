@@ -7,8 +7,8 @@ use Rattle.runs.proofs.Tags.{tagged_at, lower_at, small_at}
 use Rattle.runs.proofs.Reaching.{lower_is, step_reach}
 use Rattle.runs.proofs.reach.fill.Goals as goal
 
-pub reach-step-requires : goal.reach-step-requires
-reach-step-requires c =
+pub reach_step-requires : goal.reach_step-requires
+reach_step-requires c =
     let es : List Entry = c.args.terms.now in
     let us : List Entry = take c.args.used es in
     let i : ℕ = c.loop-i.i in
@@ -31,7 +31,7 @@ loop-i-preserved c =
     let e : Entry = get_or es i no_entry in
     below_more _ _
     (λ k h. let ne : k ≢ i = omega arith in get_or-set_other c.loop-i.reach i k _ 0 ne ∙ c.loop-i.invariant k h)
-    (get_or-set_same c.loop-i.reach i _ 0 (omega arith) ∙ (c.reach-step.ensures ∙ step_reach us c.loop-i.reach i e g l p c.loop-i.invariant))
+    (get_or-set_same c.loop-i.reach i _ 0 (omega arith) ∙ (c.reach_step.ensures ∙ step_reach us c.loop-i.reach i e g l p c.loop-i.invariant))
 
 pub returns : goal.returns
 returns c =

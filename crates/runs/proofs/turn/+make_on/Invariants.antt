@@ -1,4 +1,4 @@
 use Rattle.runs.proofs.turn.+make_on.Given as goal
 
-abbrev pub decreases-make-on : goal.decreases-make-on
-decreases-make-on l = l.path
+abbrev pub decreases-make_on : goal.decreases-make_on
+decreases-make_on l = l.path

@@ -33,8 +33,8 @@ returns-then-not-fits g c =
       refl,
     )
 
-pub make-on-made-requires : goal.make-on-made-requires
-make-on-made-requires g c =
+pub make_on-made-requires : goal.make_on-made-requires
+make_on-made-requires g c =
     let es : List Entry = c.args.terms.now in
     let us : List Entry = take c.args.used es in
     let f = fits_redex us c.args.current c.find.result c.in-Redex.act c.in-Redex.path c.in-Redex.is c.find.ensures.fits in
@@ -56,8 +56,8 @@ returns-else-not-fits g c =
     let w : Written = write c.args.used (along us c.in-Redex.path c.args.current c.in-Redex.act) in (
       w.entries,
       turn_is (g.S.Scheme.meaning c.args.scheme.now) c.args.role es c.args.used c.args.current c.requires.fits.0 c.find.result c.find.ensures.met (Redex c.in-Redex.act c.in-Redex.path) c.in-Redex.is
-          ∙ ap (λ (k : ℕ). moves w.entries k) (sym c.make-on-made.ensures.place),
-      c.make-on-made.ensures.table,
-      c.make-on-made.ensures.used,
+          ∙ ap (λ (k : ℕ). moves w.entries k) (sym c.make_on-made.ensures.place),
+      c.make_on-made.ensures.table,
+      c.make_on-made.ensures.used,
       omega arith,
     )

@@ -8,9 +8,9 @@ fill-requires g c =
     let T = c.in-Moves.ensures in
     let m = g.S.Scheme.meaning c.args.scheme.now in
     let L = c.requires.0 in
-    let a = moved_more m c.args.role c.args.terms.now c.turn-at.new.terms c.args.reach.now c.args.used c.args.current L c.in-Moves.next c.in-Moves.more T in
+    let a = moved_more m c.args.role c.args.terms.now c.turn_at.new.terms c.args.reach.now c.args.used c.args.current L c.in-Moves.next c.in-Moves.more T in
     let b = T.4 in
-    let k = c.turn-at.auto.terms in
+    let k = c.turn_at.auto.terms in
     let d = L.reaching in (
       a,
       (
@@ -18,8 +18,8 @@ fill-requires g c =
         (
           omega arith,
           (
-            moved_ground m c.args.role c.args.terms.now c.turn-at.new.terms c.args.reach.now c.args.used c.args.current L c.in-Moves.next c.in-Moves.more T,
-            moved_known m c.args.role c.args.terms.now c.turn-at.new.terms c.args.reach.now c.args.used c.args.current L c.in-Moves.next c.in-Moves.more T,
+            moved_ground m c.args.role c.args.terms.now c.turn_at.new.terms c.args.reach.now c.args.used c.args.current L c.in-Moves.next c.in-Moves.more T,
+            moved_known m c.args.role c.args.terms.now c.turn_at.new.terms c.args.reach.now c.args.used c.args.current L c.in-Moves.next c.in-Moves.more T,
           ),
         ),
       ),
@@ -31,6 +31,6 @@ returns-in-Moves g c =
     let m = g.S.Scheme.meaning c.args.scheme.now in
     record {
       is = T;
-      live = moved_live m c.args.role c.args.terms.now c.turn-at.new.terms c.args.reach.now c.args.used c.args.current c.requires.0 c.in-Moves.next c.in-Moves.more T
-          c.fill.new.reach c.turn-at.auto.terms c.fill.auto.reach c.fill.ensures;
+      live = moved_live m c.args.role c.args.terms.now c.turn_at.new.terms c.args.reach.now c.args.used c.args.current c.requires.0 c.in-Moves.next c.in-Moves.more T
+          c.fill.new.reach c.turn_at.auto.terms c.fill.auto.reach c.fill.ensures;
     }

@@ -15,8 +15,8 @@ returns-then-not-passes g c =
       known = λ h. absurd (false≢true h);
     }
 
-pub reach-step-requires : goal.reach-step-requires
-reach-step-requires g c =
+pub reach_step-requires : goal.reach_step-requires
+reach_step-requires g c =
     let role = (g.S.Scheme.meaning c.args.scheme.now).role in
     let es : List Entry = c.args.terms.now in
     let i : ℕ = c.loop-i.i in
@@ -45,7 +45,7 @@ loop-i-preserved g c =
     let l : i < length us = omega arith in
     let p = get_or-take (i + 1) es i no_entry (omega arith) in
     let K = below_known es rs u i (omega arith) (omega arith) c.loop-i.invariant.2 in
-    let v = c.reach-step.ensures ∙ step_reach us rs i e G l p K in (
+    let v = c.reach_step.ensures ∙ step_reach us rs i e G l p K in (
       sym (pass_on role es u i (omega arith) here) ∙ c.loop-i.invariant.0,
       all,
       below_more _ _

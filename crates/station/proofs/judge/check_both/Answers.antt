@@ -15,6 +15,6 @@ both s n = record { sufficient = s; necessary = n }
 pub returns : goal.returns
 returns g c =
     ap₂ both
-    (c.told-sufficient.ensures ∙ ap of_check (c.give-up.ensures ∙ (ap plain c.check-sufficient.ensures.answer ∙ plain_cleared _)))
+    (c.told-sufficient.ensures ∙ ap of_check (c.give_up.ensures ∙ (ap plain c.check_sufficient.ensures.answer ∙ plain_cleared _)))
     (c.told-necessary.ensures
-    ∙ ap of_check (c.check-necessary.ensures.answer ∙ ap (λ (T : List Entry). (check_of (g.S.Scheme.meaning c.args.scheme.now) necessary c.args.counts.types c.args.counts.terms T c.args.terms.now).answer) c.check-sufficient.ensures.table))
+    ∙ ap of_check (c.check_necessary.ensures.answer ∙ ap (λ (T : List Entry). (check_of (g.S.Scheme.meaning c.args.scheme.now) necessary c.args.counts.types c.args.counts.terms T c.args.terms.now).answer) c.check_sufficient.ensures.table))

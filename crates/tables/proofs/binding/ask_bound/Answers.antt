@@ -13,12 +13,12 @@ use Rattle.tables.proofs.binding.ask_bound.Goals as goal
 asked : (t i : ℕ) (terms : List Entry) (ds : List ℕ) (b : Bool) → ds ≡ depths terms → b ≡ bound_at (at terms i) (get_or ds i 0) → asks b (Unbound (t + i)) ≡ ask_bound t terms i
 asked t i terms ds b d e = ap (λ x. asks x (Unbound (t + i))) (e ∙ ap (λ l. bound_at (at terms i) (get_or l i 0)) d)
 
-pub returns-in-err-ask : goal.returns-in-err-ask
-returns-in-err-ask c =
-    let p = err_from_is_err_and c.from-residual.result c.from-residual.ensures.1 in
-    let q = asked c.args.t c.loop-i.i c.args.terms.now c.find-depths-depths.result c.is-bound-bound.result c.find-depths-depths.ensures c.is-bound-bound.ensures in
+pub returns-in_err-ask : goal.returns-in_err-ask
+returns-in_err-ask c =
+    let p = err_from_is_err_and c.from_residual.result c.from_residual.ensures.1 in
+    let q = asked c.args.t c.loop-i.i c.args.terms.now c.find_depths-depths.result c.is_bound-bound.result c.find_depths-depths.ensures c.is_bound-bound.ensures in
     rw (p.1, p.2)
-    (sym (each_err (ask_bound c.args.t c.args.terms.now) _ _ _ c.loop-i-test.true (c.in-err-ask.ensures ∙ q)) ∙ c.loop-i.invariant)
+    (sym (each_err (ask_bound c.args.t c.args.terms.now) _ _ _ c.loop-i-test.true (c.in_err-ask.ensures ∙ q)) ∙ c.loop-i.invariant)
 
 pub loop-i-preserved : goal.loop-i-preserved
 loop-i-preserved c =

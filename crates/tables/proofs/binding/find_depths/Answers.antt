@@ -18,8 +18,8 @@ more es ds n i s h e =
 pub loop-i-init : goal.loop-i-init
 loop-i-init c = (refl, depths_none c.args.terms.now _ (omega arith))
 
-pub hand-first-requires : goal.hand-first-requires
-hand-first-requires c =
+pub hand_first-requires : goal.hand_first-requires
+hand_first-requires c =
     let i : ℕ = c.loop-i.i - 1 in (
       c.loop-i.invariant.0,
       (
@@ -28,10 +28,10 @@ hand-first-requires c =
       ),
     )
 
-pub hand-second-requires : goal.hand-second-requires
-hand-second-requires c =
+pub hand_second-requires : goal.hand_second-requires
+hand_second-requires c =
     let i : ℕ = c.loop-i.i - 1 in (
-      ap length c.hand-first.ensures ∙ (length_first (at c.args.terms.now i) (get_or c.loop-i.depths i 0) c.loop-i.depths ∙ c.loop-i.invariant.0),
+      ap length c.hand_first.ensures ∙ (length_first (at c.args.terms.now i) (get_or c.loop-i.depths i 0) c.loop-i.depths ∙ c.loop-i.invariant.0),
       (
         omega arith,
         (c.requires.1 i (omega arith), low c.args.terms.now c.loop-i.depths c.loop-i.i i (omega arith) c.loop-i.invariant.1),

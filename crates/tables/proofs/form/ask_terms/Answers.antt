@@ -4,10 +4,10 @@ use Rattle.tables.specs.Form.{ask_term}
 use Rattle.tables.proofs.Asked.{each_ok, each_err}
 use Rattle.tables.proofs.form.ask_terms.Goals as goal
 
-pub returns-in-err-ask-term : goal.returns-in-err-ask-term
-returns-in-err-ask-term g c =
-    let p = err_from_is_err_and c.from-residual.result c.from-residual.ensures.1 in
-    rw (p.1, p.2) (sym (each_err (ask_term (g.S.Scheme.meaning c.args.scheme.now).role c.args.t c.args.terms.now) _ _ _ c.loop-i-test.true c.in-err-ask-term.ensures) ∙ c.loop-i.invariant)
+pub returns-in_err-ask_term : goal.returns-in_err-ask_term
+returns-in_err-ask_term g c =
+    let p = err_from_is_err_and c.from_residual.result c.from_residual.ensures.1 in
+    rw (p.1, p.2) (sym (each_err (ask_term (g.S.Scheme.meaning c.args.scheme.now).role c.args.t c.args.terms.now) _ _ _ c.loop-i-test.true c.in_err-ask_term.ensures) ∙ c.loop-i.invariant)
 
 pub loop-i-preserved : goal.loop-i-preserved
 loop-i-preserved g c =

@@ -8,4 +8,4 @@ pub returns : goal.returns
 returns g c =
     c.ask_entries.ensures
     ∙ (ap₂ (λ (t n : ℕ). entries_asked (g.S.Scheme.meaning c.args.scheme.now).role (take t c.args.types.now) (take n c.args.terms.now)) (sub-zero c.args.counts.types) (sub-zero c.args.counts.terms)
-    ∙ sym (and_ok _ _ _ c.in_ok-sound.ensures ∙ (and_ok _ _ _ c.in_ok-few.ensures ∙ and_ok _ _ _ c.in-ok-room.ensures)))
+    ∙ sym (and_ok _ _ _ c.in_ok-sound.ensures ∙ (and_ok _ _ _ c.in_ok-few.ensures ∙ and_ok _ _ _ c.in_ok-room.ensures)))

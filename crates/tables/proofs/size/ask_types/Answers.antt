@@ -22,21 +22,21 @@ small : (xs : List ℕ) (i v : ℕ) → i < length xs → v ≤ 4096 → ((k : �
 small xs i v l h b =
     below_more _ _ (λ k q. rw (get_or-set_other xs i k v 0 (λ e. omega arith)) (b k q)) (rw (get_or-set_same xs i v 0 l) h)
 
-pub returns-in-err-ask-type : goal.returns-in-err-ask-type
-returns-in-err-ask-type g c =
-    let p = err_from_is_err_and c.from-residual.result c.from-residual.ensures.1 in
+pub returns-in_err-ask_type : goal.returns-in_err-ask_type
+returns-in_err-ask_type g c =
+    let p = err_from_is_err_and c.from_residual.result c.from_residual.ensures.1 in
     rw (p.1, p.2)
-    (sym (each_err (ask_type (g.S.Scheme.meaning c.args.scheme.now).role c.args.types.now) _ _ _ c.loop-i-test.true (sym (and_err _ _ _ c.in-err-ask-type.ensures))) ∙ c.loop-i.invariant.3)
+    (sym (each_err (ask_type (g.S.Scheme.meaning c.args.scheme.now).role c.args.types.now) _ _ _ c.loop-i-test.true (sym (and_err _ _ _ c.in_err-ask_type.ensures))) ∙ c.loop-i.invariant.3)
 
-pub returns-in-err-ask : goal.returns-in-err-ask
-returns-in-err-ask g c =
+pub returns-in_err-ask : goal.returns-in_err-ask
+returns-in_err-ask g c =
     let role : ℕ → Bool = (g.S.Scheme.meaning c.args.scheme.now).role in
     let T : List Entry = c.args.types.now in
     let i : ℕ = c.loop-i.i in
-    let is : c.written-out-size.result ≡ size T i = c.written-out-size.ensures ∙ size_is T c.loop-i.sizes i (type_yes role (at T i) i (sym c.in-ok-ask-type.ensures)).1 c.loop-i.invariant.1 in
-    let p = err_from_is_err_and c.from-residual-in-err-ask.result c.from-residual-in-err-ask.ensures.1 in
+    let is : c.written_out-size.result ≡ size T i = c.written_out-size.ensures ∙ size_is T c.loop-i.sizes i (type_yes role (at T i) i (sym c.in_ok-ask_type.ensures)).1 c.loop-i.invariant.1 in
+    let p = err_from_is_err_and c.from_residual-in_err-ask.result c.from_residual-in_err-ask.ensures.1 in
     rw (p.1, p.2)
-    (sym (each_err (ask_type role T) (length T) i _ c.loop-i-test.true (c.in-err-ask.ensures ∙ (asked i _ _ is ∙ sym (and_ok _ _ _ c.in-ok-ask-type.ensures)))) ∙ c.loop-i.invariant.3)
+    (sym (each_err (ask_type role T) (length T) i _ c.loop-i-test.true (c.in_err-ask.ensures ∙ (asked i _ _ is ∙ sym (and_ok _ _ _ c.in_ok-ask_type.ensures)))) ∙ c.loop-i.invariant.3)
 
 pub loop-i-preserved : goal.loop-i-preserved
 loop-i-preserved g c =

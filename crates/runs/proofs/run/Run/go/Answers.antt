@@ -8,18 +8,18 @@ use Rattle.runs.proofs.run.Run.go.Goals as goal
 pub returns-then-not-moved : goal.returns-then-not-moved
 returns-then-not-moved g c =
     ends_here (g.S.Scheme.meaning c.args.scheme.now) c.args.budget c.loop-made.made c.args.self.now c.loop-made.self c.args.terms.now c.loop-made.terms c.loop-made.reach
-    c.loop-made.invariant (omega arith) c.turn-live-met.new.terms c.turn-live-met.result c.turn-live-met.ensures.is c.take.new.self c.take.ensures (sym c.if-not-moved.ensures)
+    c.loop-made.invariant (omega arith) c.turn_live-met.new.terms c.turn_live-met.result c.turn_live-met.ensures.is c.take.new.self c.take.ensures (sym c.if-not-moved.ensures)
 
 pub loop-made-preserved : goal.loop-made-preserved
 loop-made-preserved g c =
     goes_on (g.S.Scheme.meaning c.args.scheme.now) c.args.budget c.loop-made.made c.args.self.now c.loop-made.self c.args.terms.now c.loop-made.terms c.loop-made.reach
-    c.loop-made.invariant (omega arith) c.turn-live-met.new.terms c.turn-live-met.new.reach c.turn-live-met.result (sym c.if-not-moved.ensures)
-    c.turn-live-met.ensures.is c.turn-live-met.ensures.live c.turn-live-met.auto.terms c.take.new.self c.take.ensures
+    c.loop-made.invariant (omega arith) c.turn_live-met.new.terms c.turn_live-met.new.reach c.turn_live-met.result (sym c.if-not-moved.ensures)
+    c.turn_live-met.ensures.is c.turn_live-met.ensures.live c.turn_live-met.auto.terms c.take.new.self c.take.ensures
 
 pub returns : goal.returns
 returns g c =
     let y : Run = c.loop-made.self in
     subst (λ (k : Condition). Went (g.S.Scheme.meaning c.args.scheme.now) c.args.budget c.args.self.now (record { role = y.role; steps = y.steps; used = y.used; current = y.current; condition = k }) c.args.terms.now c.loop-made.terms c.args.budget)
-    (sym c.idle-by-self.ensures)
+    (sym c.idle_by-self.ensures)
     (rests_here (g.S.Scheme.meaning c.args.scheme.now) c.args.budget c.loop-made.made c.args.self.now y c.args.terms.now c.loop-made.terms c.loop-made.reach
     c.loop-made.invariant (omega arith) c.find.result c.find.ensures.met)
