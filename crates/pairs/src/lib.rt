@@ -30,9 +30,9 @@ fn lower(code: u64, w: u32) -> u64
 
 // One code of two parts.
 fn pack(x: u64, y: u64, w: u32) -> u64
-    requires w_bound { w < 64 }
-    requires y_bound { y < 2 ^ w }
-    requires y_bound_2 { packed w x y < 2 ^ 64 }
+    requires width { w < 64 }
+    requires second { y < 2 ^ w }
+    requires whole { packed w x y < 2 ^ 64 }
     ensures { result ≡ packed w x y }
 {
     x * (1 << w) + y

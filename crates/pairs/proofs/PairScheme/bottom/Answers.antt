@@ -8,4 +8,5 @@ pack-requires g c =
     let ln = g.met.B.Scheme.lawful c.args.self.now.second in
     let sound = sym c.if-sound.ensures in
     let b = bottoms _ _ lm ln sound in
-    placed _ _ lm ln sound _ _ _ c.width.ensures (rw c.bottom.ensures b.0) (rw c.bottom-then-sound.ensures b.1)
+    let p = placed _ _ lm ln sound _ _ _ c.width.ensures (rw c.bottom.ensures b.0) (rw c.bottom-then-sound.ensures b.1) in
+    record { width = p.0; second = p.1; whole = p.2 }

@@ -7,5 +7,5 @@ pub pack-requires : goal.pack-requires
 pack-requires g c =
     let lm = g.met.A.Scheme.lawful c.args.self.now.first in
     let ln = g.met.B.Scheme.lawful c.args.self.now.second in
-    placed _ _ lm ln (sym c.if-sound.ensures) _ _ _ c.width-w.ensures
-    (meet_role lm _ _ _ (sym c.meet.ensures ∙ c.in_ok-x.was)) (meet_role ln _ _ _ (sym c.meet-then-sound.ensures ∙ c.in_ok-y.was))
+    (let all = placed _ _ lm ln (sym c.if-sound.ensures) _ _ _ c.width-w.ensures
+    (meet_role lm _ _ _ (sym c.meet.ensures ∙ c.in_ok-x.was)) (meet_role ln _ _ _ (sym c.meet-then-sound.ensures ∙ c.in_ok-y.was)) in (record { width = all.0; second = all.1; whole = all.2 }))
