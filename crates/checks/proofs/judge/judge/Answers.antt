@@ -39,7 +39,7 @@ pub returns-in_default : goal.returns-in_default
 returns-in_default g c = let l = c.requires.own.3.least in let h = c.requires.own.3.most in let z : c.args.e.tag ≡ 26 = omega arith in c.restricted.ensures ∙ sym (judge_26 (g.S.Scheme.meaning c.args.scheme.now) (meant c.args.system) c.args.place c.args.types.now c.args.e c.args.f c.args.x c.args.bound z)
 
 pub joined-requires : goal.joined-requires
-joined-requires g c κs z = let_there (g.S.Scheme.meaning c.args.scheme.now) (g.met.S.Scheme.lawful c.args.scheme.now) (meant c.args.system) c.args.place c.args.types.now c.args.used c.args.e c.args.f c.args.x c.requires c.in-24.is z
+joined-requires g c z = let_there (g.S.Scheme.meaning c.args.scheme.now) (g.met.S.Scheme.lawful c.args.scheme.now) (meant c.args.system) c.args.place c.args.types.now c.args.used c.args.e c.args.f c.args.x c.requires c.in-24.is z
 
 pub raised-requires : goal.raised-requires
-raised-requires g c κs z = raise_there (g.S.Scheme.meaning c.args.scheme.now) (g.met.S.Scheme.lawful c.args.scheme.now) (meant c.args.system) c.args.place c.args.types.now c.args.used c.args.e c.args.f c.args.x c.requires c.in-25.is z
+raised-requires g c z = raise_there (g.S.Scheme.meaning c.args.scheme.now) (g.met.S.Scheme.lawful c.args.scheme.now) (meant c.args.system) c.args.place c.args.types.now c.args.used c.args.e c.args.f c.args.x c.requires c.in-25.is z

@@ -17,7 +17,7 @@ loop-top-init g c =
     )
 
 pub enters-requires : goal.enters-requires
-enters-requires g c κs a b =
+enters-requires g c a b =
     let v : c.loop-top.last < c.loop-top.used = v_there (g.S.Scheme.meaning c.args.scheme.now) (g.met.S.Scheme.lawful c.args.scheme.now) (meant c.args.system) c.args.t c.args.types.now c.args.terms.now c.requires (length c.args.terms.now - 1) (omega (arith, c.requires.some)) c.loop-top.types c.loop-top.used c.loop-top.last c.loop-top.frames c.loop-top.binders c.loop-top.top (c.loop-top.top - 1) (omega arith) c.loop-top.invariant.0 (omega arith) in
     let u = c.loop-top.invariant.1 in
     let r = c.requires.room in
