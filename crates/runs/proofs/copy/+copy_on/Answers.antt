@@ -35,7 +35,7 @@ copy_on-a-requires t c =
     let m = first_may es c.args.reach.now c.args.base c.args.depth c.args.with c.args.at c.args.used c.requires.form.0 c.requires.form.1.0 c.requires.room c.depth_first.result c.depth_first.ensures z in
     let r = first_room es c.args.reach.now c.args.base c.args.depth c.args.with c.args.at c.args.used c.requires.form.0 c.requires.form.1.0 c.requires.room c.depth_first.result c.if-reach-at.false z c.depth_first.ensures in
     let f = first_le e.tag c.args.depth in
-    (omega arith, (m, (c.requires.form.1.0, (c.requires.form.1.1, (omega arith, (c.requires.fits.1, omega arith))))))
+    (omega arith, ((m, (c.requires.form.1.0, c.requires.form.1.1)), ((omega arith, c.requires.fits.1), omega arith)))
 
 pub bounds-terms-a : goal.bounds-terms-a
 bounds-terms-a t c =
@@ -77,7 +77,7 @@ copy_on-b-requires t c =
     let f = second_le e.tag c.args.depth in
     let k = c.copy_on-a.ensures.used in
     let j = c.copy_on-a.auto.terms in
-    (omega arith, (m, (omega arith, (c.requires.form.1.1, (omega arith, (omega arith, omega arith))))))
+    (omega arith, ((m, (omega arith, c.requires.form.1.1)), ((omega arith, omega arith), omega arith)))
 
 pub bounds-terms-b : goal.bounds-terms-b
 bounds-terms-b t c =

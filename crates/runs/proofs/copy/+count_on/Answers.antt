@@ -31,7 +31,7 @@ count_on-a-requires t c =
     let l = low_first es c.args.reach.now c.args.base c.args.depth c.args.with c.args.at c.requires.form.0 c.requires.form.1.0 z in
     let m = may_first es c.args.reach.now c.args.base c.args.depth c.args.with c.args.at c.requires.form.0 c.requires.form.1.0 c.depth_first.result c.depth_first.ensures z in
     let f = first_le e.tag c.args.depth in
-    (omega arith, (m, (c.requires.form.1.0, (c.requires.form.1.1, omega arith))))
+    (omega arith, ((m, (c.requires.form.1.0, c.requires.form.1.1)), omega arith))
 
 pub returns-then-n-eq1 : goal.returns-then-n-eq1
 returns-then-n-eq1 t c =
@@ -49,7 +49,7 @@ count_on-b-requires t c =
     let l = low_second es rs c.args.base c.args.depth c.args.with c.args.at c.requires.form.0 c.requires.form.1.0 o in
     let m = may_second es rs c.args.base c.args.depth c.args.with c.args.at c.requires.form.0 c.requires.form.1.0 c.depth_second.result c.depth_second.ensures o in
     let f = second_le e.tag c.args.depth in
-    (omega arith, (m, (c.requires.form.1.0, (c.requires.form.1.1, omega arith))))
+    (omega arith, ((m, (c.requires.form.1.0, c.requires.form.1.1)), omega arith))
 
 pub returns : goal.returns
 returns t c =

@@ -73,14 +73,14 @@ returns-then-is_value-2 g t c =
     }
 
 pub find-requires : goal.find-requires
-find-requires g t c κs within =
+find-requires g t c within live =
     let es : List Entry = c.args.terms.now in
     let b : ℕ = c.args.base in
     let i : ℕ = c.args.at in
     let m = g.S.Scheme.meaning c.args.scheme.now in
     let l = first_below m (take b es) c.requires.0 i (get_or es i no_entry) (inside es b i c.requires.1.0 c.requires.1.1.0) (get_or-take b es i no_entry c.requires.1.1.0) (sym c.if-is_value.ensures) c.if-e-eq-VARIABLE.false in
     let cl = first_closed (take b es) c.requires.0 i (get_or es i no_entry) (inside es b i c.requires.1.0 c.requires.1.1.0) (get_or-take b es i no_entry c.requires.1.1.0) c.requires.1.1.1 (sym c.if-is_value.ensures) c.if-e-eq-VARIABLE.false in
-    (omega arith, (within, (c.requires.0, (c.requires.1.0, (omega arith, cl)))))
+    (omega arith, (live, (c.requires.0, (c.requires.1.0, (omega arith, cl)))))
 
 pub outward-requires : goal.outward-requires
 outward-requires g t c =

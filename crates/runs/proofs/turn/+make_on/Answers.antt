@@ -3,18 +3,12 @@ use Rattle.tables.specs.declared.entry.Entry.{Entry}
 use Rattle.runs.proofs.Making.{way_low, way_fits, way_room, way_done}
 use Rattle.runs.proofs.turn.+make_on.Goals as goal
 
-pub slice-copy_out·e : goal.slice-copy_out·e
-slice-copy_out·e t c =
-    let q : c.args.path ≡ suc (c.args.path - 1) = omega arith in
-    let l = way_low c.args.terms.now c.args.base c.args.used c.requires.form.0 c.requires.fits.0 c.args.path (c.args.path - 1) c.args.at c.args.act q c.requires.form.1.1 c.requires.room in
-    omega arith
-
 pub make_on-a-requires : goal.make_on-a-requires
 make_on-a-requires t c =
     let q : c.args.path ≡ suc (c.args.path - 1) = omega arith in
     let f = way_fits c.args.terms.now c.args.base c.args.used c.requires.form.0 c.requires.fits.0 c.args.path (c.args.path - 1) c.args.at c.args.act q c.requires.form.1.1 c.requires.room in
     let r = way_room c.args.terms.now c.args.base c.args.used c.requires.form.0 c.requires.fits.0 c.args.path (c.args.path - 1) c.args.at c.args.act q c.requires.form.1.1 c.requires.room in
-    (omega arith, (c.requires.form.0, (c.requires.form.1.0, (f, (c.requires.fits.0, (c.requires.fits.1.0, (c.requires.fits.1.1, omega arith)))))))
+    (omega arith, ((c.requires.form.0, (c.requires.form.1.0, f)), (c.requires.fits, omega arith)))
 
 pub bounds-terms-a : goal.bounds-terms-a
 bounds-terms-a t c =
