@@ -1,4 +1,6 @@
 //! A job in lines that two people can read aloud: one entry to a line, with its place and its form in words.
+#![tactic(auto)]
+
 mod refusal;
 mod term_lines;
 mod type_words;

@@ -1,5 +1,7 @@
 //! The calculus of role guards: its types, its terms, two type systems, its steps, and the theorems about them.
 //! The definitions are in specs/, and docs/calculus.md reads them aloud. Each function stands for one theorem, which specs/ states for every lawful scheme.
+#![tactic(auto)]
+
 ghost use Rattle.calculus.specs.Theorems.{SubtypingReflexive, SubtypingTransitive, SubtypingAntisymmetric, SubtypingDecided, InferenceSound, InferenceDecides, InferenceLeast, StepsKeepType, SufficientSafety, NecessarySafety, OutcomeUnique, NextDecides, StepsKeepClosed, TypedClosed, StepsCounted, DominatingRoleSteps, RaisingNeedsRemainder};
 ghost use Rattle.calculus.specs.Everywhere.{InferenceDecidesEverywhere, InferenceLeastEverywhere};
 ghost use Rattle.calculus.specs.Subtyping.{System, sufficient};

@@ -1,4 +1,6 @@
 //! Reads a scheme block, the role on duty and a job's bound, and prints what the dispatcher may do.
+#![tactic(auto)]
+
 use dispatcher::decide::report;
 use std::io;
 use std::io::Read;

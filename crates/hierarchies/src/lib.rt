@@ -1,4 +1,6 @@
 //! Hierarchies: numbered roles with juniors; a role code holds the juniors of every role it holds.
+#![tactic(auto)]
+
 ghost use Rattle.std.specs.Prelude.{◌≡◌, ◌<◌, ◌≤◌};
 ghost use Rattle.hierarchies.specs.Kind.{closed, hierarchy, joined_rows, keeps_row, row_sound};
 ghost use Rattle.hierarchies.specs.Laws.{hierarchy_lawful};

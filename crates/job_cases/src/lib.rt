@@ -1,4 +1,6 @@
 //! Cases of job images: a table of damaged ones with the refusal of each, and jobs at every limit.
+#![tactic(auto)]
+
 #[cfg(test)]
 mod bench;
 #[cfg(test)]

@@ -1,4 +1,6 @@
 //! Job images: a job as bytes, read into two lent tables and written from them.
+#![tactic(auto)]
+
 mod decode;
 mod encode;
 pub mod fault;

@@ -1,4 +1,6 @@
 //! Ladders: a role is a rank, and a rank at least as high dominates.
+#![tactic(auto)]
+
 ghost use Rattle.ladders.specs.Kind.{ladder};
 ghost use Rattle.ladders.specs.Laws.{ladder_lawful};
 

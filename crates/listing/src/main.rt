@@ -1,4 +1,6 @@
 //! Reads a scheme block and an image, and prints the job so that two people can read it aloud.
+#![tactic(auto)]
+
 use aloud::Spoken;
 use std::io;
 use std::io::Read;

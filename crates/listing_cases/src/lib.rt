@@ -1,3 +1,5 @@
 //! Jobs as they are listed.
+#![tactic(auto)]
+
 #[cfg(test)]
 mod examples;

@@ -1,4 +1,6 @@
 //! Masks: a role is any code of the scheme's width, and a superset of bits dominates.
+#![tactic(auto)]
+
 ghost use Rattle.masks.specs.Kind.{mask};
 ghost use Rattle.masks.specs.Laws.{mask_lawful};
 

@@ -1,4 +1,6 @@
 //! Reads what `rehearsal` reads, and makes the whole run by one advance: for measuring, and for long runs.
+#![tactic(auto)]
+
 use run_words::AtOnce;
 use std::io;
 use std::io::Read;

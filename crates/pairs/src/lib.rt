@@ -1,4 +1,6 @@
 //! Pairs: a role of each of two schemes in one code, the second's in the low bits.
+#![tactic(auto)]
+
 ghost use Rattle.std.specs.Prelude.{◌≡◌, ◌^◌, ◌<◌};
 ghost use Rattle.pairs.specs.Kind.{high, low, packed, pair, pair_code};
 ghost use Rattle.pairs.specs.Laws.{pair_lawful};

@@ -1,4 +1,6 @@
 //! Worked readings of the calculus under a mask and a ladder, and errors that would be tempting, each shown to be one by a term.
+#![tactic(auto)]
+
 ghost use Rattle.calculus.specs.Subtyping.{necessary, sufficient};
 ghost use Rattle.calculus.specs.Theorems.{StepsKeepType};
 ghost use Rattle.readings.specs.Bounds.{Readings};

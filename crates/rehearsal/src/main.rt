@@ -1,4 +1,6 @@
 //! Reads a scheme block, an image, a role, a budget and a number of term places, and prints the rehearsal step by step.
+#![tactic(auto)]
+
 use run_words::Spoken;
 use std::io;
 use std::io::Read;

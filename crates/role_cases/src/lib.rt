@@ -1,4 +1,6 @@
 //! Cases of the role schemes, the scheme block and the dispatcher, and a kind of scheme from outside their crates.
+#![tactic(auto)]
+
 #[cfg(test)]
 mod blocks_read;
 #[cfg(test)]

@@ -1,4 +1,6 @@
 //! Round trips: what is read is written again byte for byte, and what is written is read again entry for entry.
+#![tactic(auto)]
+
 ghost use Rattle.rounds.specs.Rounds.{Rereading, Rewriting};
 
 /// Writing what an accepted reading left gives the image back.

@@ -1,4 +1,6 @@
 //! Cases of runs: small jobs to their end, refusals, and tables at their limits.
+#![tactic(auto)]
+
 #[cfg(test)]
 mod bench;
 #[cfg(test)]

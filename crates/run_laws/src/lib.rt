@@ -1,4 +1,6 @@
 //! Laws over the advances of a run, on what the contract of `advance` says that it leaves.
+#![tactic(auto)]
+
 ghost use Rattle.run_laws.specs.Laws.{AdvancesAdd, StaysUsable};
 
 /// Two advances leave the same as one by both budgets.

@@ -1,4 +1,6 @@
 //! A rehearsal in lines that a technician can read aloud: the bounds, the start, each step's current entry, and how it ended.
+#![tactic(auto)]
+
 mod entry_words;
 mod order;
 

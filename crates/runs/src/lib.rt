@@ -1,4 +1,6 @@
 //! Runs: a role at work on a job's terms, step by step, in a lent table.
+#![tactic(auto)]
+
 mod copy;
 pub mod fault;
 mod find;

@@ -1,4 +1,6 @@
 //! The two lent tables of a job, types and terms, and the questions of form that are put to them.
+#![tactic(auto)]
+
 pub mod binding;
 pub mod entry;
 pub mod fault;

@@ -1,4 +1,6 @@
 //! The verdict on an input in plain lines that people can read aloud: each check's answer, what its number means, and the entry at its place.
+#![tactic(auto)]
+
 use blocks::read::read_block;
 use station::judge::verdict;
 use station::refusal::Refusal;

@@ -1,5 +1,7 @@
 //! What the entries of a job's tables stand for: the types and the terms of the calculus.
 //! The definitions are in specs/, and each function stands for one fact about them, which specs/ states for every scheme.
+#![tactic(auto)]
+
 ghost use Rattle.trees.specs.Facts.{AcceptedClosed, AcceptedCoded, BoundClosed, FormDecides, PrefixKeepsTrees, TreesUnfold};
 
 /// The form scan accepts exactly the jobs that keep the limits, whose entries are as their tags ask, each term but the last named once and each variable bound.

@@ -1,4 +1,6 @@
 //! Reads a scheme block and a job image, and writes the 24 bytes of the verdict.
+#![tactic(auto)]
+
 use station::judge::judge;
 use std::io;
 use std::io::{Read, Write};

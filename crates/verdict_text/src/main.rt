@@ -1,4 +1,6 @@
 //! Reads a scheme block and a job image, and prints the verdict in plain lines.
+#![tactic(auto)]
+
 use std::io;
 use std::io::Read;
 use telling::Spoken;

@@ -1,4 +1,6 @@
 //! The dispatcher's report in plain lines that a technician can read aloud.
+#![tactic(auto)]
+
 use blocks::block::{Block, BlockFault};
 use codes::bits::holds;
 use dispatcher::report::{Decision, Refusal, Report};
