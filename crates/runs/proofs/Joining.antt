@@ -46,7 +46,7 @@ pub record Yes (m : Meaning) (x : Run) (es : List Entry) (k : ℕ) : Type 0 wher
   pub unended : ends x.condition ≡ false
   pub below : x.steps + k < 2 ^ 32
 
-answered_yes : (m : Meaning) (x : Run) (es : List Entry) (k : ℕ) → refusal m x es k ≡ None → Yes m x es k
+pub answered_yes : (m : Meaning) (x : Run) (es : List Entry) (k : ℕ) → refusal m x es k ≡ None → Yes m x es k
 answered_yes m x es k h =
     let a = was_yes m.sound _ _ h in
     let b = was_yes (m.role x.role) _ _ a.1 in
@@ -68,7 +68,7 @@ has_ended m x es k a b c d =
     yes m.sound _ _ a ∙ (yes (m.role x.role) _ _ b ∙ (yes (usable m.role es x.used x.current) _ _ c ∙ yes (ends x.condition) _ _ d))
 
 -- a condition is told as it is, but for a full table with no budget
-told_more : (k : ℕ) (c : Condition) → told_by (suc k) c ≡ c
+pub told_more : (k : ℕ) (c : Condition) → told_by (suc k) c ≡ c
 told_more k Going = refl
 told_more k Finished = refl
 told_more k (RoleFault i a x) = refl
@@ -180,7 +180,7 @@ module _ (m : Meaning) (x : Run) (es : List Entry) (j : ℕ) (Y : Yes m x es j) 
       ((λ k l. subst (λ (e : Entry). passes m.role e k ≡ true) (sym (get_or-take x.used es k no_entry (omega arith))) (passed_by m.role es x.used 0 fit_parts.2 k (omega arith) (omega arith))), fit_parts.3)
       tells.walked
 
-  usable_after : usable m.role fs u a.state.current ≡ true
+  pub usable_after : usable m.role fs u a.state.current ≡ true
   usable_after =
       let p = fit_parts.0 in
       let q = fits in
