@@ -137,7 +137,7 @@ def main():
         for old, new in sorted(names.items()):
             print(old, new)
         return
-    # « and » in edits and clauses are left to the hand
+    names = names or {"": ""}
     pattern = re.compile(r"(?<![\w\-'′″·])(?:" + "|".join(re.escape(n) for n in sorted(names, key=len, reverse=True)) + r")(?![\w\-'′″·])")
     for path in files("all"):
         text = read(path)
@@ -150,6 +150,11 @@ def main():
         if path.endswith("hierarchies/specs/Kind.antt"):
             # port.py left both spellings of std's word in this file
             new = new.replace("bit-or", "bit_or").replace("bitOr", "bit_or")
+        if path in ("crates/machine/specs/Plans.antt", "crates/machine/proofs/Growing.antt"):
+            # ours there, and not std's lemma
+            new = re.sub(r"(?<![\w-])add-one(?![\w-])", "add_one", new)
+        # port.py joined a type's two words
+        new = re.sub(r"\bTells_same\b", "TellsSame", new)
         if new != text:
             with open(path, "w", encoding="utf-8") as f:
                 f.write(new)

@@ -8,7 +8,7 @@ use Rattle.tables.specs.declared.entry.Entry.{Entry}
 use Rattle.tables.specs.Asking.{Answer, and_then}
 use Rattle.tables.specs.Entries.{at, no_entry}
 use Rattle.tables.specs.Form.{form, sound_asked, counts_asked, room_asked, entries_asked}
-use Rattle.walks.specs.Sense.{Within, Tells_same}
+use Rattle.walks.specs.Sense.{Within, TellsSame}
 use Rattle.walks.specs.Walk.{Walked, going, stopped, walk_of}
 use Rattle.walks.proofs.Accepting.{terms_long, walkable}
 use Rattle.walks.proofs.Linking.{walk_again_lem}
@@ -17,7 +17,7 @@ use Rattle.checks.specs.Again.{AnswersByJob, AnswersAgain}
 use Rattle.checks.specs.Checking.{bound_in, walk_answer, after_form, check_of}
 use Rattle.checks.proofs.Meaning.{check_meant}
 
-same_answer : (m : Meaning) (w w' : Walked) → Tells_same w w' → walk_answer m w' ≡ walk_answer m w
+same_answer : (m : Meaning) (w w' : Walked) → TellsSame w w' → walk_answer m w' ≡ walk_answer m w
 same_answer m (going T u x) (going T' u' x') s = ap (λ (e : Entry). Ok (bound_in m e)) s.1
 same_answer m (going T u x) (stopped T' c) s = absurd s
 same_answer m (stopped T c) (going T' u x) s = absurd s
@@ -34,7 +34,7 @@ module _ (m : Meaning) (L : Lawful m) (α : System) (t n : ℕ) (T T' M : List E
   by_form : (a : Answer) → form m t n T M ≡ a → (after_form m T' a (walk_of m α t (take n M) (n - 1) [] T' t)).answer ≡ (after_form m T a (walk_of m α t (take n M) (n - 1) [] T t)).answer
   by_form (Ok tt) q =
       same_answer m (walk_of m α t (take n M) (n - 1) [] T t) (walk_of m α t (take n M) (n - 1) [] T' t)
-      (subst (λ (z : ℕ). Tells_same (walk_of m α t (take n M) (z - 1) [] T t) (walk_of m α t (take n M) (z - 1) [] T' t)) (terms_long m t n T M q)
+      (subst (λ (z : ℕ). TellsSame (walk_of m α t (take n M) (z - 1) [] T t) (walk_of m α t (take n M) (z - 1) [] T' t)) (terms_long m t n T M q)
       (walk_again_lem m L α t T T' (take n M) (walkable m t n T M q) l front_same))
   by_form (Err e) q = refl
 

@@ -6,7 +6,7 @@ use Rattle.calculus.specs.Syntax.{Ty, Term}
 use Rattle.std.proofs.lemmas.Bool.{and_parts}
 use Rattle.tables.specs.declared.entry.Entry.{Entry}
 use Rattle.machine.specs.Labelled.{Leaf, constants, variables, One, abstracts, fixes, guards, checks, units, raises, restricts, Two, applies, lets, Head, none, leafs, ones, twos, head, entry_one, entry_two, Tree, stray, leaf, one, two, label, planted, node, grow, trees, tree, inside, beside, closed, erase, erase_leaf, erase_one, erase_two}
-use Rattle.machine.specs.Plans.{Plan, old, new_one, new_two, Written, add-one, add_two, write}
+use Rattle.machine.specs.Plans.{Plan, old, new_one, new_two, Written, add_one, add_two, write}
 
 -- the entries of two lists, one after the other
 pub grow_append : (acc : List Tree) (es fs : List Entry) → grow acc (es ++ fs) ≡ grow (grow acc es) fs
@@ -160,7 +160,7 @@ held_last acc fresh t =
 held_under : (acc fresh : List Tree) (t u : Tree) → Held (acc ++ fresh) u → Held (acc ++ (fresh ++ (t ∷ []))) u
 held_under acc fresh t u h = subst (λ (x : List Tree). Held x u) (append_assoc acc fresh (t ∷ [])) (held_more (acc ++ fresh) (t ∷ []) u h)
 
-fits_one : (acc : List Tree) (h : One) (w : Written) (l : Laid) → Fits acc w l → Fits acc (add-one (length acc) h w) (lay_one (length acc) h l)
+fits_one : (acc : List Tree) (h : One) (w : Written) (l : Laid) → Fits acc w l → Fits acc (add_one (length acc) h w) (lay_one (length acc) h l)
 fits_one acc h w l f =
     let t = one (length acc + length l.fresh) h l.whole in
     let n : node (acc ++ l.fresh) (entry_one h w.place) ≡ t =

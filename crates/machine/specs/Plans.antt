@@ -16,8 +16,8 @@ pub record Written : Type 0 where
   pub place : ℕ
 
 -- One more entry, over what was written from place b on.
-abbrev pub add-one : ℕ → One → Written → Written
-add-one b h w = record { entries = w.entries ++ (entry_one h w.place ∷ []); place = b + length w.entries }
+abbrev pub add_one : ℕ → One → Written → Written
+add_one b h w = record { entries = w.entries ++ (entry_one h w.place ∷ []); place = b + length w.entries }
 
 -- One more entry, over two that were written one after the other from place b on.
 abbrev pub add_two : ℕ → Two → Written → Written → Written
@@ -29,7 +29,7 @@ add_two b h w v = record {
 -- What a plan appends from place b on: the first operand's entries, the second's, then the entry.
 abbrev pub write : ℕ → Plan → Written
 write b (old t) = record { entries = []; place = label t }
-write b (new_one h p) = add-one b h (write b p)
+write b (new_one h p) = add_one b h (write b p)
 write b (new_two h p q) = add_two b h (write b p) (write (b + length (write b p).entries) q)
 
 -- Does the tree contain the variable of the binder that d others stand inside of?

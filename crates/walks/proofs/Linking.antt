@@ -23,7 +23,7 @@ use Rattle.walks.specs.declared.finding.Finding.{Finding}
 use Rattle.walks.specs.declared.finding.Finding.TheVariants.{Refused, Known, New}
 use Rattle.walks.specs.Places.{Grounded, Placed, Rooted, Walkable}
 use Rattle.walks.specs.Rules.{base_type, function_type, guarded_type, computation_type, claim_of, asked, applied, fixed, checked_as, checked, joined_as, joined, raised_as, raised, restricted_as, restricted}
-use Rattle.walks.specs.Sense.{Least, Untyped, TypedBy, Within, Decides, WalkDecides, Tells_same, WalkAgain}
+use Rattle.walks.specs.Sense.{Least, Untyped, TypedBy, Within, Decides, WalkDecides, TellsSame, WalkAgain}
 use Rattle.walks.specs.Walk.{Walked, going, stopped, Walker, and_then, settled, let_rest, walk_by, walk_of}
 use Rattle.walks.proofs.Goods.{Good, low_base, low_function, low_guarded, low_computation, good_applied, good_fixed, good_checked, good_joined, good_raised, good_restricted}
 use Rattle.walks.proofs.Links.{tys, AllLow, Grew, Went, Halted, Linked, Judges, same_types, grew_none, settled_links, then_links, lift_links, apply_to, fix_of, check_of, join_to, raise_by, restrict_to, by_shape, apply_judges, fix_judges, check_judges, join_judges, raise_judges, restrict_judges, depth_of, variable_judges, all_at, all_more, tys_same}
@@ -504,13 +504,13 @@ module _ (m : Meaning) (L : Lawful m) (α : System) (t : ℕ) (T₀ es : List En
       subst (λ (z : ℕ). Linked m T₀ t z (infer m α [] (term root)) (walk_of m α t es root [] T₀ t)) root_size
       (link (length es) root (omega arith) (omega arith) [] T₀ t begins)
 
-  tells : (w w' : Walked) → Linked m T₀ t (length es) (infer m α [] (term root)) w → Alike w w' → Tells_same w w'
+  tells : (w w' : Walked) → Linked m T₀ t (length es) (infer m α [] (term root)) w → Alike w w' → TellsSame w w'
   tells (going T u x) (going T' u' x') l a = (a.last, ap (at T') a.last ∙ a.agree x l.there)
   tells (going T u x) (stopped T' c) l a = a
   tells (stopped T c) (going T' u' x') l a = a
   tells (stopped T c) (stopped T' c') l a = a
 
-  tell_again : (T' : List Entry) → length T' ≡ length T₀ → ((i : ℕ) → i < t → at T' i ≡ at T₀ i) → Tells_same (walk_of m α t es root [] T₀ t) (walk_of m α t es root [] T' t)
+  tell_again : (T' : List Entry) → length T' ≡ length T₀ → ((i : ℕ) → i < t → at T' i ≡ at T₀ i) → TellsSame (walk_of m α t es root [] T₀ t) (walk_of m α t es root [] T' t)
   tell_again T' l a =
       let some = wk.some in
       tells (walk_of m α t es root [] T₀ t) (walk_of m α t es root [] T' t) whole (again (length es) root (omega arith) (omega arith) [] T₀ T' t begins (l, a))

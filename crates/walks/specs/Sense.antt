@@ -48,15 +48,15 @@ WalkDecides =
     Decides m α t types terms (walk_of m α t terms (length terms - 1) [] types t)
 
 -- Two walks tell the same: the same fault, or a type at the same place, with the same entry there.
-abbrev pub Tells_same : Walked → Walked → Type 0
-Tells_same (going T u x) (going T' u' x') = (x' ≡ x) × (at T' x' ≡ at T x)
-Tells_same (going T u x) (stopped T' c) = ⊥
-Tells_same (stopped T c) (going T' u x) = ⊥
-Tells_same (stopped T c) (stopped T' c') = c' ≡ c
+abbrev pub TellsSame : Walked → Walked → Type 0
+TellsSame (going T u x) (going T' u' x') = (x' ≡ x) × (at T' x' ≡ at T x)
+TellsSame (going T u x) (stopped T' c) = ⊥
+TellsSame (stopped T c) (going T' u x) = ⊥
+TellsSame (stopped T c) (stopped T' c') = c' ≡ c
 
 -- What stands from place t up does not matter to a walk.
 abbrev pub WalkAgain : Type 0
 WalkAgain =
     (m : Meaning) → Lawful m → (α : System) (t : ℕ) (types types' terms : List Entry) → Walkable m t types terms →
     length types' ≡ length types → ((i : ℕ) → i < t → at types' i ≡ at types i) →
-    Tells_same (walk_of m α t terms (length terms - 1) [] types t) (walk_of m α t terms (length terms - 1) [] types' t)
+    TellsSame (walk_of m α t terms (length terms - 1) [] types t) (walk_of m α t terms (length terms - 1) [] types' t)
