@@ -1,5 +1,5 @@
 #!/usr/bin/env python3
-"""Counts the instructions of runs, by the program pace. Needs valgrind, and target/bin/pace (rt check pace).
+"""Counts the instructions of runs, by the program pace. Needs valgrind, and crates/pace/out/pace (rt run there).
 
 usage: bench/runs.py [PROGRAM]
 """
@@ -34,7 +34,7 @@ def instructions(program, data):
 
 
 def main():
-    program = sys.argv[1] if len(sys.argv) > 1 else "target/bin/pace"
+    program = sys.argv[1] if len(sys.argv) > 1 else "crates/pace/out/pace"
     raised = TURNING + [(RAISE, 2, 0, 0)]
     cases = [(f"fix of the identity, {k:,} steps", order(TURNING, k, 3)) for k in (0, 1000, 10000, 100000)]
     cases += [(f"raise over it, {k:,} steps, each appending one entry", order(raised, k, 16384)) for k in (0, 1000, 4000, 16000)]

@@ -1,5 +1,5 @@
 #!/usr/bin/env python3
-"""Counts the instructions of the verdict program on the largest images. Needs valgrind, and target/bin/verdict (rt check verdict).
+"""Counts the instructions of the verdict program on the largest images. Needs valgrind, and crates/verdict/out/verdict (rt run there).
 
 usage: bench/verdict.py [PROGRAM]
 """
@@ -80,7 +80,7 @@ CASES = [
 
 
 def main():
-    program = sys.argv[1] if len(sys.argv) > 1 else "target/bin/verdict"
+    program = sys.argv[1] if len(sys.argv) > 1 else "crates/verdict/out/verdict"
     print("| input | bytes | verdict | instructions |")
     print("|---|---|---|---|")
     for name, data in CASES:
