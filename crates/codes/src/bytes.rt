@@ -28,6 +28,7 @@ pub fn bytes16(half: u16) -> [u8; 2]
 }
 
 /// A number of 32 bits as bytes, the lowest first.
+#[tactic(auto, using(crate::proofs::Numbers::four_bytes))]
 pub fn bytes32(word: u32) -> [u8; 4]
     ensures { result ≡ bytes_of 4 word }
 {
@@ -35,6 +36,7 @@ pub fn bytes32(word: u32) -> [u8; 4]
 }
 
 /// A number of 64 bits as bytes, the lowest first.
+#[tactic(auto, using(crate::proofs::Numbers::eight_bytes))]
 pub fn bytes64(code: u64) -> [u8; 8]
     ensures { result ≡ bytes_of 8 code }
 {
