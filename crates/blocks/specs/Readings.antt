@@ -1,5 +1,5 @@
 -- Readings of the kinds, by computation. Assumes nothing.
-use Rattle.std.specs.Prelude.{◌≡◌, ℕ, true, false, List, [], ◌∷◌, Some, None}
+use Rattle.std.specs.Prelude.{◌≡◌, true, false, [], ◌∷◌, Some}
 use Rattle.roles.specs.Meaning.{Meaning}
 use Rattle.ladders.specs.Kind.{ladder}
 use Rattle.hierarchies.specs.Kind.{hierarchy}

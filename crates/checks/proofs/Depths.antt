@@ -1,16 +1,15 @@
 -- The depth of an operand goes by the depth of its term, in a job whose terms are named once.
-use Rattle.std.proofs.Common.{◌≡◌, ℕ, zero, suc, ◌+◌, ◌-◌, ◌<◌, ◌≤◌, Bool, true, false, cond, not, ◌&&◌, ◌||◌, eqb, ltb, ◌⊎◌, List, length, get_or, take, sym, refl, ap, ◌∙◌, inl, inr, arith}
+use Rattle.std.proofs.Common.{◌≡◌, ℕ, ◌+◌, ◌-◌, ◌<◌, ◌≤◌, Bool, true, false, cond, not, ◌||◌, eqb, ltb, ◌⊎◌, List, length, get_or, take, sym, refl, ap, ◌∙◌, inl, inr, arith}
 use mathlib.Core.Bool.{false≢true}
 use Rattle.std.proofs.lemmas.Bool.{and_from, eq-eqb, lt-ltb, ltb-true, cases_eq, ne_eqb}
 use Rattle.roles.specs.Meaning.{Meaning}
 use Rattle.tables.specs.declared.entry.Entry.{Entry}
-use Rattle.tables.specs.Depths.{binds_first, binds_second, depths, bound_at}
+use Rattle.tables.specs.Depths.{binds_first, binds_second, depths}
 use Rattle.tables.specs.Entries.{at, names}
 use Rattle.trees.proofs.Handing.{depth_last, depth_first_lem, depth_second_lem}
 use Rattle.trees.proofs.Unfolding.{lower}
 use Rattle.walks.specs.Places.{operand_of, Walkable}
-use Rattle.walks.proofs.Placing.{rooted}
-use Rattle.checks.specs.Frames.{binds_of, deeper_of}
+use Rattle.checks.specs.Frames.{deeper_of}
 
 deeper_first : (e : Entry) (d : ℕ) → deeper_of e 0 d ≡ d + binds_first e.tag
 deeper_first e d = go (eqb e.tag 18) (eqb e.tag 24)

@@ -1,18 +1,13 @@
 -- What is found of a term, by its tag; and that it names types that are there.
-use Rattle.std.proofs.Common.{◌≡◌, ℕ, zero, suc, ◌+◌, ◌-◌, ◌<◌, ◌≤◌, Bool, true, false, cond, ◌&&◌, eqb, List, length, get_or, set, is_some, Some, None, Option, sym, refl, ap, ◌∙◌, subst, ap₂, arith}
-use mathlib.Core.Bool.{false≢true}
-use Rattle.std.proofs.lemmas.Bool.{cases_eq, ne_eqb, eqb-true, and_from}
+use Rattle.std.proofs.Common.{◌≡◌, ℕ, ◌<◌, ◌≤◌, true, List, is_some, sym, refl, ap, ◌∙◌, subst, arith}
 use Rattle.roles.specs.Meaning.{Meaning, Lawful}
 use Rattle.calculus.specs.Subtyping.{System, sufficient, necessary}
-use Rattle.calculus.specs.Typing.{permits}
 use Rattle.tables.specs.declared.entry.Entry.{Entry}
 use Rattle.tables.specs.Entries.{at, names, role_tag}
-use Rattle.trees.proofs.ByTag.{by_term_tag, made}
-use Rattle.walks.specs.declared.fault.TypingFault.{TypingFault}
+use Rattle.trees.proofs.ByTag.{by_term_tag}
 use Rattle.walks.specs.declared.finding.Finding.{Finding}
-use Rattle.walks.specs.declared.finding.Finding.TheVariants.{Refused, Known, New}
-use Rattle.walks.specs.Places.{Low, Grounded, Placed}
-use Rattle.walks.specs.Rules.{base_type, function_type, guarded_type, computation_type, claim_of, role_of, asked, below, applied, fixed, checked, joined, raised, restricted}
+use Rattle.walks.specs.declared.finding.Finding.TheVariants.{Known, New}
+use Rattle.walks.specs.Rules.{base_type, function_type, guarded_type, computation_type, claim_of, applied, fixed, checked, joined, raised, restricted}
 use Rattle.walks.proofs.Goods.{Good, low_base, low_function, low_guarded, low_computation, join_there, remainder_there, type_code, good_applied, good_fixed, good_checked, good_joined, good_raised, good_restricted}
 use Rattle.walks.proofs.Unfolding.{tagged}
 use Rattle.checks.specs.Judge.{judge_of, Ready}

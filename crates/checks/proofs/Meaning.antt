@@ -1,7 +1,7 @@
 -- The answer of a check says what the rules say.
-use Rattle.std.proofs.Common.{◌≡◌, ℕ, ◌+◌, ◌-◌, ◌<◌, ◌≤◌, Bool, true, cond, eqb, List, [], length, get_or, take, Ok, Err, Result, sym, refl, ap, ◌∙◌, subst, subst₂, arith}
+use Rattle.std.proofs.Common.{◌≡◌, ℕ, ◌+◌, ◌-◌, true, List, [], length, get_or, take, Ok, Err, Result, refl, subst}
 use Rattle.roles.specs.Meaning.{Meaning, Lawful}
-use Rattle.calculus.specs.Syntax.{Ty, base, function, guarded, computation, unit_kind, Term}
+use Rattle.calculus.specs.Syntax.{Ty, base, unit_kind}
 use Rattle.calculus.specs.Subtyping.{System}
 use Rattle.tables.specs.declared.entry.Entry.{Entry}
 use Rattle.tables.specs.Asking.{Answer}
@@ -10,13 +10,12 @@ use Rattle.tables.specs.Ladder.{ladder}
 use Rattle.tables.specs.Form.{form}
 use Rattle.trees.specs.Trees.{type_by, type_step, type_of, term_of}
 use Rattle.trees.proofs.ByTag.{by_type_tag}
-use Rattle.walks.specs.Places.{Grounded}
 use Rattle.walks.specs.Sense.{Least, Within, Decides}
 use Rattle.walks.specs.Walk.{Walked, going, stopped, table_of, walk_of}
 use Rattle.walks.proofs.Accepting.{terms_long, walkable}
 use Rattle.walks.proofs.Linking.{walk_decides_lem}
 use Rattle.checks.specs.declared.fault.CheckFault.{CheckFault}
-use Rattle.checks.specs.declared.fault.CheckFault.TheVariants.{Form, Typing}
+use Rattle.checks.specs.declared.fault.CheckFault.TheVariants.{Typing}
 use Rattle.checks.specs.Checking.{Checked, bound_in, walk_answer, after_form, check_of, cleared}
 use Rattle.checks.specs.Sense.{job_term, bound_of, Says, plain}
 

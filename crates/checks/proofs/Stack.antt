@@ -1,5 +1,5 @@
 -- The frames of a walk stay within their arrays, and the types that they hold within the table.
-use Rattle.std.proofs.Common.{◌≡◌, ℕ, zero, suc, ◌+◌, ◌-◌, ◌<◌, ◌≤◌, Bool, true, false, cond, eqb, ◌⊎◌, List, [], ◌∷◌, length, get_or, set, sym, refl, ap, ◌∙◌, subst, ap₂, subst₂, inl, inr, add-one, arith}
+use Rattle.std.proofs.Common.{◌≡◌, ℕ, suc, ◌+◌, ◌-◌, ◌<◌, ◌≤◌, Bool, true, false, cond, eqb, ◌⊎◌, List, [], ◌∷◌, length, get_or, set, sym, refl, ap, ◌∙◌, subst, ap₂, subst₂, inl, inr, add-one, arith}
 use mathlib.Core.Bool.{false≢true}
 use Rattle.std.proofs.lemmas.Bool.{cases_eq, ne_eqb, eqb-true}
 use Rattle.std.proofs.lemmas.List.{get_or-set_same, get_or-set_other, length-set}
@@ -24,7 +24,7 @@ use Rattle.checks.specs.Judge.{bound_of, judge_of, Ready}
 use Rattle.checks.proofs.Depths.{depth_down, bound_here}
 use Rattle.checks.proofs.Envs.{env_same, env_more, env_low}
 use Rattle.checks.proofs.Judges.{judge_good}
-use Rattle.checks.proofs.Walks.{no_frame, under, todo, walk_is, todo_more, todo_stop, todo_done, run, pend, pend_same, pend_stopped, frame_sum, pend_sum, pend_sum_same, two, two_top, two_here, two_below}
+use Rattle.checks.proofs.Walks.{no_frame, under, todo, walk_is, todo_more, todo_stop, todo_done, run, pend, pend_same, pend_stopped, frame_sum, pend_sum, pend_sum_same, two_top, two_here, two_below}
 
 pub record Fits (m : Meaning) (t root : ℕ) (es T : List Entry) (u v : ℕ) (fs : List Frame) (bs : List ℕ) (top : ℕ) : Type 0 where
   pub frames : length fs ≡ 1024

@@ -1,5 +1,5 @@
 -- A walk by a stack of frames: what the frames leave to do.
-use Rattle.std.proofs.Common.{◌≡◌, ℕ, zero, suc, ◌+◌, ◌-◌, ◌<◌, ◌≤◌, Bool, true, false, cond, List, [], ◌∷◌, length, get_or, set, sym, refl, ap, ◌∙◌, ap₂, add-one, arith}
+use Rattle.std.proofs.Common.{◌≡◌, ℕ, zero, suc, ◌+◌, ◌-◌, ◌<◌, ◌≤◌, true, false, cond, List, ◌∷◌, length, get_or, set, refl, ap, ◌∙◌, ap₂, arith}
 use Rattle.std.proofs.lemmas.List.{get_or-set_same, get_or-set_other, length-set}
 use Rattle.roles.specs.Meaning.{Meaning}
 use Rattle.calculus.specs.Subtyping.{System}
@@ -8,10 +8,10 @@ use Rattle.tables.specs.Entries.{at, names, term_tag}
 use Rattle.trees.proofs.ByTag.{by_term_tag}
 use Rattle.walks.specs.declared.fault.TypingFault.{TypingFault}
 use Rattle.walks.specs.declared.fault.TypingFault.TheVariants.{NoComputation}
-use Rattle.walks.specs.Places.{operand_of, Placed, Rooted}
-use Rattle.walks.specs.Walk.{Walked, going, stopped, Walker, and_then, settled, walk_by, walk_of}
-use Rattle.walks.proofs.Sums.{sum_rest, sum_of, sum_is}
-use Rattle.walks.proofs.Unfolding.{and_then_same, tagged, walk_unfold}
+use Rattle.walks.specs.Places.{operand_of, Rooted}
+use Rattle.walks.specs.Walk.{Walked, stopped, Walker, and_then, settled, walk_by, walk_of}
+use Rattle.walks.proofs.Sums.{sum_rest, sum_of}
+use Rattle.walks.proofs.Unfolding.{tagged, walk_unfold}
 use Rattle.checks.specs.declared.walk.Frame.{Frame}
 use Rattle.checks.specs.Frames.{enters_of, binds_of, binder_of, env}
 use Rattle.checks.specs.Judge.{bound_of, judge_of}

@@ -1,5 +1,5 @@
 -- The comparison of two types, a pair of entries at a time. Assumes nothing.
-use Rattle.std.specs.Prelude.{ℕ, Bool, true, false, cond, ◌==◌}
+use Rattle.std.specs.Prelude.{Bool, true, false, cond, ◌==◌}
 use Rattle.roles.specs.Meaning.{Meaning}
 use Rattle.calculus.specs.Subtyping.{System}
 use Rattle.calculus.specs.Inference.{role_test_way}

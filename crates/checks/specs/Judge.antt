@@ -1,5 +1,5 @@
 -- The rules of the walk by the tag of a term, when the walk of its operands is done. Assumes nothing.
-use Rattle.std.specs.Prelude.{◌≡◌, ℕ, ◌+◌, ◌<◌, ◌≤◌, Bool, true, cond, List, length, ◌==◌, slice_index}
+use Rattle.std.specs.Prelude.{◌≡◌, ℕ, ◌<◌, ◌≤◌, true, cond, List, length, ◌==◌, slice_index}
 use Rattle.roles.specs.Meaning.{Meaning}
 use Rattle.calculus.specs.Subtyping.{System}
 use Rattle.tables.specs.declared.entry.Entry.{Entry}

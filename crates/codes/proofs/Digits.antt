@@ -1,5 +1,5 @@
 -- Numbers by their bits: a law of `&`, `|` and `!` is shown bit by bit, where it is linear arithmetic on 0 and 1. Assumes nothing.
-use Rattle.std.proofs.Common.{◌≡◌, ℕ, zero, suc, ◌+◌, ◌-◌, ◌*◌, ◌/◌, ◌%◌, ◌^◌, ◌<◌, ◌≤◌, min, max, true, eqb, ◌⊎◌, sym, refl, ap, ◌∙◌, subst, inl, inr, pow-suc, one-add, arith, pow_mono, shr-shr}
+use Rattle.std.proofs.Common.{◌≡◌, ℕ, zero, suc, ◌-◌, ◌/◌, ◌%◌, ◌^◌, ◌<◌, ◌≤◌, min, max, true, ◌⊎◌, sym, ap, ◌∙◌, inl, inr, pow-suc, one-add, arith, pow_mono, shr-shr}
 use native.Mathlib.Nat.{zero-div, div-eq_of_lt}
 use lib.Bits.{bit_and, bit_or, and_step, or_step, and_shr, or_shr, and_le_r}
 use Rattle.std.proofs.lemmas.Bool.{eqb-true, eq-eqb, cases_eq}

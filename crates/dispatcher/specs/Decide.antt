@@ -1,5 +1,5 @@
 -- The dispatcher's decision, from the bytes that it is given. Assumes nothing.
-use Rattle.std.specs.Prelude.{ℕ, cond, not, List, length, Some, None, Ok, Err, Option, Result, ◌==◌, nat_lt}
+use Rattle.std.specs.Prelude.{ℕ, cond, not, List, length, Some, None, Ok, Err, Result, ◌==◌, nat_lt}
 use Rattle.roles.specs.Meaning.{Meaning}
 use Rattle.roles.specs.Refusal.{number_of as scheme-number, place_of as scheme-place}
 use Rattle.roles.specs.declared.scheme.SchemeFault.TheVariants.{Unsound}

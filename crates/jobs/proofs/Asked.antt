@@ -1,10 +1,10 @@
 -- What an answer says of the questions that it answers.
-use Rattle.std.proofs.Common.{◌≡◌, Bool, true, false, Ok, Err, Result, sym, refl, ap, ◌∙◌}
+use Rattle.std.proofs.Common.{◌≡◌, Bool, true, false, Ok, Err, sym, refl, ap}
 use Rattle.tables.specs.declared.fault.FormFault.{FormFault}
 use Rattle.tables.specs.Asking as form
 use Rattle.jobs.specs.declared.fault.ImageFault.{ImageFault}
 use Rattle.jobs.specs.declared.fault.ImageFault.TheVariants.{Form}
-use Rattle.jobs.specs.Asking.{Answer, asks, and_then, formed, told, left}
+use Rattle.jobs.specs.Asking.{Answer, asks, and_then, formed, told}
 
 pub and_first : (a b : Answer) → and_then a b ≡ Ok tt → a ≡ Ok tt
 and_first (Ok u) b h = refl

@@ -1,5 +1,5 @@
 -- What the questions before the entries have shown when they are answered with yes.
-use Rattle.std.proofs.Common.{◌≡◌, ℕ, ◌+◌, ◌≤◌, true, ◌&&◌, eqb, leb, List, ◌++◌, length, take, drop, Ok, Err, sym, refl, ap, ◌∙◌, ap₂, arith}
+use Rattle.std.proofs.Common.{◌≡◌, ℕ, ◌+◌, ◌≤◌, ◌&&◌, eqb, leb, List, length, take, Ok, ap, ◌∙◌, arith}
 use Rattle.roles.specs.Meaning.{Meaning}
 use Rattle.roles.specs.declared.scheme.SchemeFault.TheVariants.{Unsound}
 use Rattle.std.proofs.lemmas.Bool.{and_parts, and_from, le-leb, leb-true, eqb-true}
@@ -7,8 +7,8 @@ use Rattle.tables.specs.declared.entry.Entry.{Entry}
 use Rattle.tables.specs.declared.fault.FormFault.TheVariants.{Scheme, Counts, Room}
 use Rattle.tables.specs.Asking as form
 use Rattle.tables.specs.Form.{sound_asked, counts_asked, room_asked, entries_asked, form}
-use Rattle.jobs.specs.declared.fault.ImageFault.TheVariants.{Short, Length}
-use Rattle.jobs.specs.Asking.{asks, and_then, formed}
+use Rattle.jobs.specs.declared.fault.ImageFault.TheVariants.{Length}
+use Rattle.jobs.specs.Asking.{and_then, formed}
 use Rattle.jobs.specs.Image.{image_length}
 use Rattle.jobs.specs.Reading.{Outlined, short_asked, length_asked, outline_asked}
 use Rattle.jobs.proofs.Asked.{and_first, and_second, asks_yes, form_yes}

@@ -1,5 +1,5 @@
 -- How the answers of a reading's steps make up its own.
-use Rattle.std.proofs.Common.{◌≡◌, ℕ, ◌+◌, ◌≤◌, List, ◌++◌, length, drop, Ok, Err, sym, ap, ◌∙◌, subst}
+use Rattle.std.proofs.Common.{◌≡◌, ℕ, List, ◌++◌, drop, Ok, Err, sym, ap, ◌∙◌, subst}
 use Rattle.roles.specs.Meaning.{Meaning}
 use Rattle.std.proofs.lemmas.List.FromFn.{length-map-range_with_len}
 use Rattle.tables.specs.declared.entry.Entry.{Entry}
@@ -8,7 +8,7 @@ use Rattle.tables.specs.declared.fault.FormFault.{FormFault}
 use Rattle.tables.specs.Form.{entries_asked}
 use Rattle.jobs.specs.declared.fault.ImageFault.{ImageFault}
 use Rattle.jobs.specs.declared.fault.ImageFault.TheVariants.{Form}
-use Rattle.jobs.specs.Asking.{Answer, and_then, formed, told, left}
+use Rattle.jobs.specs.Asking.{Answer, and_then, formed, told}
 use Rattle.jobs.specs.Image.{types_told, terms_told, types_in, terms_in}
 use Rattle.jobs.specs.Reading.{Outlined, counts_told, outline_asked, read_asked, filled}
 use Rattle.jobs.proofs.Asked.{told_yes, told_value, told_no, formed_no, formed_yes}

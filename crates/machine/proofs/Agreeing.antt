@@ -1,16 +1,16 @@
 -- The theorems about turns and advances. Assumes nothing.
-use Rattle.std.proofs.Common.{◌≡◌, ℕ, Bool, true, false, List, ◌++◌, length, sym, refl, ap, ◌∙◌, subst, subst₂}
+use Rattle.std.proofs.Common.{◌≡◌, ℕ, true, List, length, sym, refl, subst, subst₂}
 use Rattle.roles.specs.Meaning.{Meaning}
 use Rattle.tables.specs.declared.entry.Entry.{Entry}
 use Rattle.machine.specs.Labelled.{Tree, trees, tree, closed}
-use Rattle.machine.specs.Plans.{Plan, write, Met, ready, makes, refused, misfit, step}
-use Rattle.machine.specs.Turns.{State, Turn, rests, moves, role_fault, shape_fault, turned, turn, moved, Advanced, advance}
+use Rattle.machine.specs.Plans.{write, Met, ready, makes, refused, misfit, step}
+use Rattle.machine.specs.Turns.{State, Turn, rests, moves, role_fault, shape_fault, turned, turn, moved}
 use Rattle.machine.specs.Theorems.{Closed, TurnsAgree, TurnsClose, TurnsGrow, AdvancesJoin, AdvancesSpend}
-use Rattle.machine.proofs.Growing.{HeldPlan, lay, Whole, closed_whole, trees_held}
+use Rattle.machine.proofs.Growing.{HeldPlan, closed_whole, trees_held}
 use Rattle.machine.proofs.Keeping.{step_held}
 use Rattle.machine.proofs.Stable.{MetBy}
 use Rattle.machine.proofs.Closing.{ClosedPlan, step_closed, lay_closed}
-use Rattle.machine.proofs.Walking.{Sound, planted_at, turn_agrees, KeptTurn, turn_kept, Tells, advance_tells, advance_on, advance_off}
+use Rattle.machine.proofs.Walking.{Sound, planted_at, turn_agrees, KeptTurn, turn_kept, advance_tells, advance_on, advance_off}
 
 pub closed_sound : (s : State) → Closed s → Sound s
 closed_sound s h = trees_held s.used s.current (closed_whole 0 (tree s.used s.current) h)

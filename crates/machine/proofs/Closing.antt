@@ -1,13 +1,11 @@
 -- A step of a closed tree plans a closed one. Assumes nothing.
-use Rattle.std.proofs.Common.{◌≡◌, ℕ, zero, suc, ◌+◌, ◌<◌, ◌≤◌, Bool, true, false, cond, ◌&&◌, ◌||◌, eqb, ltb, List, [], ◌∷◌, ◌++◌, length, Some, None, Option, sym, refl, ap, ◌∙◌, subst, true≢false, arith, ltb-true, lt-ltb}
-use mathlib.Core.Bool.{false≢true}
+use Rattle.std.proofs.Common.{◌≡◌, ℕ, suc, ◌+◌, ◌≤◌, Bool, true, false, cond, ◌||◌, eqb, length, refl, subst, arith, ltb-true, lt-ltb}
 use borrow.Author.Tests.{eqb-false}
 use Rattle.roles.specs.Meaning.{Meaning}
 use Rattle.std.proofs.lemmas.Bool.{and_parts, and_from}
-use Rattle.tables.specs.declared.entry.Entry.{Entry}
-use Rattle.machine.specs.Labelled.{Leaf, constants, variables, One, abstracts, fixes, guards, checks, units, raises, restricts, Two, applies, lets, Tree, stray, leaf, one, two, label, inside, beside, closed}
-use Rattle.machine.specs.Plans.{Plan, old, new_one, new_two, free, replace, Met, ready, makes, refused, misfit, valued, call, granted, test, hand, inward, under, step}
-use Rattle.machine.proofs.Growing.{Laid, lay}
+use Rattle.machine.specs.Labelled.{constants, variables, One, abstracts, fixes, guards, checks, units, raises, restricts, Two, applies, lets, Tree, stray, leaf, one, two, inside, beside, closed}
+use Rattle.machine.specs.Plans.{Plan, old, new_one, new_two, free, replace, step}
+use Rattle.machine.proofs.Growing.{lay}
 use Rattle.machine.proofs.Erasing.{or_neither}
 use Rattle.machine.proofs.Stable.{Plain, Stable, MetBy, step_stable}
 

@@ -1,13 +1,13 @@
 -- Replacing is the calculus's substitution, and what a step meets is what `next` tells. Assumes nothing.
-use Rattle.std.proofs.Common.{◌≡◌, ℕ, zero, suc, Bool, true, false, cond, ◌||◌, eqb, Some, None, Option, sym, refl, ap, ◌∙◌, true≢false, arith}
+use Rattle.std.proofs.Common.{◌≡◌, ℕ, Bool, true, false, cond, ◌||◌, eqb, Some, None, Option, sym, refl, ap, ◌∙◌, true≢false, arith}
 use Rattle.roles.specs.Meaning.{Meaning}
-use Rattle.calculus.specs.Syntax.{Ty, Term, constant, variable, abstraction, application, fix, guard, check, unit, let_in, raise, restrict}
+use Rattle.calculus.specs.Syntax.{Ty, Term, variable, application, fix, check, let_in, raise, restrict}
 use Rattle.calculus.specs.Substitution.{substitute}
 use Rattle.calculus.specs.Steps.{Value, constant_value, abstraction_value, guard_value, unit_value}
 use Rattle.calculus.specs.Next as calculus
 use Rattle.calculus.specs.Next.{Outcome, value, goes_to, role_fault, shape_fault, as_value, by_operand, act_application, act_fix, opened, act_check, act_let, next}
 use Rattle.calculus.proofs.Outcomes.{next_decides_lem}
-use Rattle.machine.specs.Labelled.{Leaf, constants, variables, One, abstracts, fixes, guards, checks, units, raises, restricts, Two, applies, lets, Tree, stray, leaf, one, two, inside, beside, erase, erase_leaf, erase_one, erase_two}
+use Rattle.machine.specs.Labelled.{constants, variables, One, abstracts, fixes, guards, checks, units, raises, restricts, Two, applies, lets, Tree, stray, leaf, one, two, inside, beside, erase, erase_one, erase_two}
 use Rattle.machine.specs.Plans.{Plan, old, new_one, new_two, free, replace, Met, ready, makes, refused, misfit, valued, call, granted, test, hand, inward, under, step}
 use Rattle.machine.proofs.Growing.{meant}
 

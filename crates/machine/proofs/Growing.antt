@@ -1,11 +1,11 @@
 -- The trees of a table stay as entries are appended, and what a plan writes grows into what it means. Assumes nothing.
-use Rattle.std.proofs.Common.{◌≡◌, ℕ, zero, suc, ◌+◌, ◌<◌, ◌≤◌, Bool, true, false, cond, ◌&&◌, ◌⊎◌, List, [], ◌∷◌, ◌++◌, length, get_or, sym, refl, ap, ◌∙◌, subst, inl, inr, true≢false, append_assoc, add-zero, add_assoc, suc-add, zero-add, arith, length-append}
+use Rattle.std.proofs.Common.{◌≡◌, ℕ, zero, suc, ◌+◌, true, ◌⊎◌, List, [], ◌∷◌, ◌++◌, length, get_or, sym, refl, ap, ◌∙◌, subst, inl, inr, append_assoc, zero-add, length-append}
 use mathlib.Core.Bool.{false≢true}
 use lib.Seq.{get_or-append_seam}
 use Rattle.calculus.specs.Syntax.{Ty, Term}
 use Rattle.std.proofs.lemmas.Bool.{and_parts}
 use Rattle.tables.specs.declared.entry.Entry.{Entry}
-use Rattle.machine.specs.Labelled.{Leaf, constants, variables, One, abstracts, fixes, guards, checks, units, raises, restricts, Two, applies, lets, Head, none, leafs, ones, twos, head, entry_one, entry_two, Tree, stray, leaf, one, two, label, planted, node, grow, trees, tree, inside, beside, closed, erase, erase_leaf, erase_one, erase_two}
+use Rattle.machine.specs.Labelled.{One, abstracts, fixes, guards, checks, units, raises, restricts, Two, applies, lets, Head, none, leafs, ones, twos, head, entry_one, entry_two, Tree, stray, leaf, one, two, label, planted, node, grow, trees, tree, inside, beside, closed, erase, erase_one, erase_two}
 use Rattle.machine.specs.Plans.{Plan, old, new_one, new_two, Written, add_one, add_two, write}
 
 -- the entries of two lists, one after the other

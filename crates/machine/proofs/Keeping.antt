@@ -1,9 +1,7 @@
 -- What a step keeps: its trees are held, they are closed, and a greater role makes the same step. Assumes nothing.
-use Rattle.std.proofs.Common.{◌≡◌, ℕ, zero, suc, Bool, true, false, cond, ◌&&◌, ◌||◌, eqb, List, [], ◌∷◌, ◌++◌, get_or, Some, None, Option, sym, refl, ap, ◌∙◌, subst, true≢false}
-use mathlib.Core.Bool.{false≢true}
+use Rattle.std.proofs.Common.{◌≡◌, ℕ, Bool, true, false, cond, ◌||◌, eqb, List, Some, None, Option, sym, refl, ap, subst}
 use Rattle.roles.specs.Meaning.{Meaning, Lawful}
-use Rattle.tables.specs.declared.entry.Entry.{Entry}
-use Rattle.machine.specs.Labelled.{Leaf, constants, variables, One, abstracts, fixes, guards, checks, units, raises, restricts, Two, applies, lets, Tree, stray, leaf, one, two, label, inside, beside, closed}
+use Rattle.machine.specs.Labelled.{constants, variables, abstracts, fixes, guards, checks, units, raises, restricts, applies, lets, Tree, stray, leaf, one, two, inside, beside}
 use Rattle.machine.specs.Plans.{Plan, old, new_one, new_two, free, replace, Met, ready, makes, refused, misfit, valued, call, granted, test, hand, inward, under, step}
 use Rattle.calculus.proofs.Laws.{left_role, right_role, across, over_left, over_right, over_join, under_left, under_right, under_meet, join_there, meet_there}
 use Rattle.machine.proofs.Growing.{Held, HeldPlan}

@@ -1,9 +1,9 @@
 -- A refused check is the one that the calculus is at. Assumes nothing.
-use Rattle.std.proofs.Common.{◌≡◌, ℕ, Bool, true, false, cond, Some, None, Option, sym, refl, ap, ◌∙◌, subst}
+use Rattle.std.proofs.Common.{◌≡◌, ℕ, Bool, true, false, cond, Some, None, Option, sym, refl, subst}
 use Rattle.roles.specs.Meaning.{Meaning}
 use Rattle.calculus.specs.Syntax.{Ty}
 use Rattle.calculus.specs.Steps.{IsRoleFault, refused as refuses, fault_in_application, fault_in_fix, fault_in_check, fault_in_let, fault_in_raise, fault_in_restrict}
-use Rattle.machine.specs.Labelled.{Leaf, constants, variables, One, abstracts, fixes, guards, checks, units, raises, restricts, Two, applies, lets, Tree, stray, leaf, one, two, erase}
+use Rattle.machine.specs.Labelled.{constants, variables, abstracts, fixes, guards, checks, units, raises, restricts, applies, lets, Tree, stray, leaf, one, two, erase}
 use Rattle.machine.specs.Plans.{Plan, old, new_one, new_two, Met, ready, makes, refused, misfit, valued, call, granted, test, hand, inward, under, step}
 use Rattle.machine.specs.Refused.{RefusedAt, at_check, at_application, at_let, at_fix, at_inner, at_raise, at_restrict}
 use Rattle.machine.specs.Theorems.{RefusalsTold}

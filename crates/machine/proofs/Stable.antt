@@ -1,8 +1,7 @@
 -- What a step keeps, of any sort: if trees have it and their parts do, then so does what a step plans. Assumes nothing.
-use Rattle.std.proofs.Common.{◌≡◌, ℕ, zero, suc, Bool, true, false, cond, ◌&&◌, ◌||◌, List, [], ◌∷◌, ◌++◌, Some, None, Option, sym, refl, ap, ◌∙◌, subst, true≢false}
-use mathlib.Core.Bool.{false≢true}
+use Rattle.std.proofs.Common.{ℕ, Bool, true, false, cond, Some, None, Option}
 use Rattle.roles.specs.Meaning.{Meaning}
-use Rattle.machine.specs.Labelled.{Leaf, constants, variables, One, abstracts, fixes, guards, checks, units, raises, restricts, Two, applies, lets, Tree, stray, leaf, one, two}
+use Rattle.machine.specs.Labelled.{constants, variables, One, abstracts, fixes, guards, checks, units, raises, restricts, Two, applies, lets, Tree, stray, leaf, one, two}
 use Rattle.machine.specs.Plans.{Plan, old, new_one, new_two, replace, Met, ready, makes, refused, misfit, valued, call, granted, test, hand, inward, under, step}
 
 -- heads with no binder

@@ -1,9 +1,9 @@
 -- Trees of appended tables, and of an entry by its operands. Assumes nothing.
-use Rattle.std.proofs.Common.{◌≡◌, ℕ, zero, suc, ◌+◌, ◌<◌, ◌≤◌, List, [], ◌∷◌, ◌++◌, length, get_or, take, drop, sym, refl, ap, ◌∙◌, subst, append_assoc, arith, length-take-le}
+use Rattle.std.proofs.Common.{◌≡◌, ℕ, suc, ◌<◌, List, [], ◌∷◌, ◌++◌, length, get_or, take, drop, sym, refl, ap, ◌∙◌, subst, append_assoc, arith, length-take-le}
 use lib.ListN.{get_or-append}
 use lib.Seq.{split_at, get_or-append_seam}
 use Rattle.tables.specs.declared.entry.Entry.{Entry}
-use Rattle.machine.specs.Labelled.{Head, none, leafs, ones, twos, head, Tree, stray, leaf, one, two, planted, node, grow, trees, tree}
+use Rattle.machine.specs.Labelled.{Head, none, leafs, ones, twos, head, Tree, stray, leaf, one, two, planted, node, trees, tree}
 use Rattle.machine.specs.Theorems.{TreesStay, rooted, Lower, TreesUnfold}
 use Rattle.machine.proofs.Growing.{grow_append, grow_extends, length_trees}
 

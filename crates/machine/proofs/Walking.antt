@@ -1,20 +1,19 @@
 -- Walks on lists: each step that is made is one of the calculus, and a greater role makes the same. Assumes nothing.
-use Rattle.std.proofs.Common.{◌≡◌, ℕ, zero, suc, ◌+◌, ◌<◌, ◌≤◌, Bool, true, false, cond, leb, ◌⊎◌, List, [], ◌∷◌, ◌++◌, length, get_or, Some, None, Option, sym, refl, ap, ◌∙◌, subst, inl, inr, true≢false, append_assoc, add-zero, add_assoc, suc-add, zero-add, arith, length-append, leb-true}
-use mathlib.Core.Bool.{false≢true}
+use Rattle.std.proofs.Common.{◌≡◌, ℕ, zero, suc, ◌+◌, ◌<◌, ◌≤◌, Bool, true, false, cond, ◌⊎◌, List, [], ◌++◌, length, get_or, Some, None, Option, sym, refl, ap, ◌∙◌, subst, inl, inr, append_assoc, suc-add, zero-add, arith, length-append, leb-true}
 use Rattle.roles.specs.Meaning.{Meaning, Lawful}
-use Rattle.calculus.specs.Syntax.{Ty, Term}
+use Rattle.calculus.specs.Syntax.{Ty}
 use Rattle.calculus.specs.Steps as calc
 use Rattle.calculus.specs.Steps.{Value, Step, Steps, no_step, IsRoleFault, IsShapeFault}
 use Rattle.calculus.specs.Next as calculus
 use Rattle.calculus.specs.Next.{Outcome, value, goes_to, next}
 use Rattle.calculus.proofs.Outcomes.{next_decides_lem}
 use Rattle.tables.specs.declared.entry.Entry.{Entry}
-use Rattle.machine.specs.Labelled.{Tree, stray, label, grow, trees, tree, erase}
-use Rattle.machine.specs.Plans.{Plan, Written, write, Met, ready, makes, refused, misfit, step}
+use Rattle.machine.specs.Labelled.{Tree, stray, trees, tree, erase}
+use Rattle.machine.specs.Plans.{Plan, write, Met, ready, makes, refused, misfit, step}
 use Rattle.machine.specs.Turns.{State, Turn, rests, moves, role_fault, shape_fault, turned, turn, moved, Advanced, idle, one_more, room, push, advance, pushed, once, after, walk, term, Agrees, added_to}
 use Rattle.machine.specs.declared.condition.Condition.{Condition}
 use Rattle.machine.specs.declared.condition.Condition.TheVariants.{Going, Finished, RoleFault, ShapeFault, TableFull}
-use Rattle.machine.proofs.Growing.{append-nil, Held, HeldPlan, grow_append, length_trees, held_at, Laid, lay, lay_meant, meant, Fits, grows}
+use Rattle.machine.proofs.Growing.{append-nil, Held, HeldPlan, grow_append, length_trees, held_at, lay, lay_meant, meant, Fits, grows}
 use Rattle.machine.proofs.Erasing.{said, step_said}
 use Rattle.machine.proofs.Keeping.{step_held, Kept, step_kept}
 use Rattle.machine.proofs.Stable.{MetBy}

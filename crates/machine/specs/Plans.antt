@@ -1,8 +1,8 @@
 -- One step on trees with numbers, and the entries that it appends. Assumes nothing.
-use Rattle.std.specs.Prelude.{ℕ, suc, ◌+◌, Bool, true, false, cond, ◌||◌, List, [], ◌∷◌, ◌++◌, length, Some, None, Option, ◌==◌}
+use Rattle.std.specs.Prelude.{ℕ, ◌+◌, Bool, true, false, cond, ◌||◌, List, [], ◌∷◌, ◌++◌, length, Some, None, Option, ◌==◌}
 use Rattle.roles.specs.Meaning.{Meaning}
 use Rattle.tables.specs.declared.entry.Entry.{Entry}
-use Rattle.machine.specs.Labelled.{Leaf, constants, variables, One, abstracts, fixes, guards, checks, units, raises, restricts, Two, applies, lets, entry_one, entry_two, Tree, stray, leaf, one, two, label, inside, beside}
+use Rattle.machine.specs.Labelled.{constants, variables, One, abstracts, fixes, guards, checks, units, raises, restricts, Two, applies, lets, entry_one, entry_two, Tree, stray, leaf, one, two, label, inside, beside}
 
 -- A term to be written: an old tree, which is shared, or a new entry over what is written for its operands.
 pub data Plan : Type 0 where

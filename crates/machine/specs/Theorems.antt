@@ -1,5 +1,5 @@
 -- What holds of turns and advances on lists. Assumes nothing.
-use Rattle.std.specs.Prelude.{◌≡◌, ℕ, ◌+◌, ◌<◌, Bool, true, ◌⊎◌, List, ◌++◌, length, get_or, None, slice_index_or}
+use Rattle.std.specs.Prelude.{◌≡◌, ℕ, ◌+◌, ◌<◌, true, ◌⊎◌, List, ◌++◌, length, get_or, None, slice_index_or}
 use Rattle.roles.specs.Meaning.{Meaning, Lawful}
 use Rattle.calculus.specs.Syntax.{Ty}
 use Rattle.tables.specs.declared.entry.Entry.{Entry}

@@ -1,6 +1,5 @@
 -- The laws of the watch, by arithmetic on its two roles. Assumes nothing.
-use Rattle.std.specs.Prelude.{◌≡◌, ℕ, ◌^◌, ◌<◌, min, max, true, cond, ◌||◌, eqb, leb, ◌⊎◌}
-use Rattle.std.proofs.Common.{inl, inr, arith}
+use Rattle.std.proofs.Common.{arith}
 use Rattle.std.proofs.lemmas.Bool.Decides.{nat_tests}
 use Rattle.roles.specs.Meaning.{Lawful}
 use Rattle.roles.proofs.Guarding.{Raw, guarded_lawful}

@@ -1,8 +1,8 @@
 -- The role set and the order leave the other answers no choice. Assumes nothing.
-use Rattle.std.proofs.Common.{◌≡◌, ℕ, Bool, true, false, ◌&&◌, is_some, Some, None, Option, sym, refl, ap, ◌∙◌, subst, ap₂}
+use Rattle.std.proofs.Common.{◌≡◌, ℕ, Bool, true, false, ◌&&◌, is_some, Some, None, Option, sym, refl, ap, ◌∙◌, ap₂}
 use Rattle.std.proofs.lemmas.Bool.{and_parts}
 use Rattle.roles.specs.Meaning.{Meaning, Lawful}
-use Rattle.roles.specs.Theorems.{SameAnswers, OrderDecides}
+use Rattle.roles.specs.Theorems.{OrderDecides}
 use Rattle.roles.proofs.Truths.{iff}
 
 -- what an operation answers is a role

@@ -1,8 +1,8 @@
 -- A kind shows the laws of its operations on roles alone; that they then hold of its whole meaning is shown here, once for all kinds. Assumes nothing.
-use Rattle.std.proofs.Common.{◌≡◌, ℕ, ◌^◌, ◌<◌, ◌≤◌, Bool, true, false, cond, ◌&&◌, is_some, Some, None, Option, sym, refl, ap, ◌∙◌, subst, arith, lit≤}
-use Rattle.std.proofs.lemmas.Bool.{and_parts, and_from, cond-true, cond-false, cases_Bool}
-use Rattle.roles.specs.Meaning.{Meaning, Lawful}
-use Rattle.roles.specs.Frame.{Frame, guarded, when, both_roles}
+use Rattle.std.proofs.Common.{◌≡◌, ℕ, ◌^◌, ◌<◌, ◌≤◌, Bool, true, false, cond, ◌&&◌, is_some, Some, sym, refl, subst, lit≤}
+use Rattle.std.proofs.lemmas.Bool.{and_parts, and_from, cond-false}
+use Rattle.roles.specs.Meaning.{Lawful}
+use Rattle.roles.specs.Frame.{Frame, guarded, when}
 use Rattle.roles.proofs.Truths.{iff}
 
 pub record Raw (f : Frame) : Type 0 where

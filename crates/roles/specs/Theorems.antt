@@ -1,5 +1,5 @@
 -- What the laws say together. Assumes nothing.
-use Rattle.std.specs.Prelude.{◌≡◌, ℕ, Bool, true}
+use Rattle.std.specs.Prelude.{◌≡◌, ℕ}
 use Rattle.roles.specs.Meaning.{Meaning, Lawful}
 
 -- The answers of two meanings that the role set and the order decide.

@@ -1,10 +1,10 @@
 -- The entries that an image of entries holds.
-use Rattle.std.proofs.Common.{◌≡◌, ℕ, zero, suc, ◌+◌, ◌-◌, ◌*◌, ◌/◌, ◌%◌, ◌^◌, ◌<◌, ◌≤◌, List, [], ◌∷◌, ◌++◌, map, length, get_or, take, drop, sym, refl, ap, ◌∙◌, ap₂, add-zero, add-one, arith, lit<}
+use Rattle.std.proofs.Common.{◌≡◌, ℕ, zero, suc, ◌+◌, ◌-◌, ◌*◌, ◌/◌, ◌%◌, ◌<◌, List, [], ◌∷◌, ◌++◌, map, length, get_or, take, drop, sym, refl, ap, ◌∙◌, ap₂, add-zero, add-one, arith, lit<}
 use Rattle.std.specs.List.{range_with_len, flat_map}
 use Rattle.std.proofs.lemmas.List.{append_assoc, append-nil, length-append, length-map, get_or-append_right, drop-drop, drop_at}
 use Rattle.tables.specs.declared.entry.Entry.{Entry}
 use Rattle.tables.specs.Entries.{at}
-use Rattle.jobs.specs.Image.{types_told, terms_told, image_length, entry_at, entries, operands_in, types_in, terms_in, bytes16, number32, number64, operand_bytes, tags, image}
+use Rattle.jobs.specs.Image.{types_told, terms_told, image_length, entry_at, entries, operands_in, types_in, terms_in, number32, number64, operand_bytes, tags, image}
 use Rattle.rounds.specs.Rounds.{Fits, Fit}
 use Rattle.rounds.proofs.Digits.{sum32, sum64}
 

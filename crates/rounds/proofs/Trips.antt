@@ -1,22 +1,21 @@
 -- The two round trips.
-use Rattle.std.proofs.Common.{◌≡◌, ℕ, ◌+◌, ◌*◌, ◌<◌, ◌≤◌, Bool, true, ◌&&◌, eqb, leb, List, ◌++◌, length, take, drop, Ok, Err, sym, refl, ap, ◌∙◌, subst, ap₂, arith}
+use Rattle.std.proofs.Common.{◌≡◌, ℕ, ◌+◌, ◌≤◌, ◌&&◌, leb, List, length, take, drop, Ok, Err, sym, refl, ap, ◌∙◌, subst, ap₂, arith}
 use Rattle.roles.specs.Meaning.{Meaning}
 use Rattle.std.proofs.lemmas.List.FromFn.{length-map-range_with_len}
 use Rattle.std.proofs.lemmas.List.{take_at, length-append, length-drop, length-take-le}
 use Rattle.std.proofs.lemmas.Bool.{and_parts, leb-true, le-leb, eqb-true, eq-eqb}
 use Rattle.tables.specs.declared.entry.Entry.{Entry}
-use Rattle.tables.specs.declared.entry.Counts.{Counts}
 use Rattle.tables.specs.declared.fault.FormFault.TheVariants.{Counts as Counted, Room}
 use Rattle.tables.specs.Asking as form
 use Rattle.tables.specs.Form.{sound_asked, counts_asked, room_asked, entries_asked, form}
 use Rattle.tables.proofs.Asked as facts
 use Rattle.jobs.specs.declared.fault.ImageFault.TheVariants.{Short, Length, Output}
-use Rattle.jobs.specs.Asking.{Answer, asks, and_then, formed, told, left}
+use Rattle.jobs.specs.Asking.{asks, and_then, formed, told, left}
 use Rattle.jobs.specs.Image.{types_told, terms_told, image_length, types_in, terms_in, image}
-use Rattle.jobs.specs.Reading.{short_asked, length_asked, outline_asked, asked_of, read_asked, read_told, types_left, terms_left, filled, counts_told}
-use Rattle.jobs.specs.Writing.{output_asked, write_asked, out_left}
-use Rattle.jobs.proofs.Asked.{and_first, and_second, asks_yes, form_yes}
-use Rattle.rounds.specs.Rounds.{Bytes, Fits, Fit, Rewritten, Rewriting, Reread, Rereading}
+use Rattle.jobs.specs.Reading.{short_asked, length_asked, outline_asked, asked_of, read_asked, types_left, terms_left, filled, counts_told}
+use Rattle.jobs.specs.Writing.{output_asked, write_asked}
+use Rattle.jobs.proofs.Asked.{and_first, and_second, asks_yes}
+use Rattle.rounds.specs.Rounds.{Bytes, Fit, Rewritten, Rewriting, Reread, Rereading}
 use Rattle.rounds.proofs.Decoded.{image_same}
 use Rattle.rounds.proofs.Encoded.{types_back, terms_back, types_told_back, terms_told_back, length_image, fit_take}
 

@@ -1,7 +1,5 @@
 -- The laws over two advances, from what the contract of `advance` says of its parts. Assumes nothing.
-use Rattle.std.proofs.Common.{◌≡◌, ℕ, suc, ◌+◌, ◌-◌, ◌≤◌, true, List, Option, refl, sym, ap, ◌∙◌, subst, arith}
-use Rattle.roles.specs.Meaning.{Meaning}
-use Rattle.tables.specs.declared.entry.Entry.{Entry}
+use Rattle.std.proofs.Common.{◌≡◌, ℕ, suc, ◌+◌, ◌-◌, ◌≤◌, true, Option, refl, sym, ap, ◌∙◌, subst, arith}
 use Rattle.machine.specs.declared.condition.Condition.{Condition}
 use Rattle.runs.specs.declared.fault.RunFault.{RunFault}
 use Rattle.runs.specs.declared.run.Run.{Run}

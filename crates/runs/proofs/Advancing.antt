@@ -1,19 +1,18 @@
 -- An advance at the table, turn by turn. Assumes nothing.
-use Rattle.std.proofs.Common.{◌≡◌, ℕ, zero, suc, ◌+◌, ◌-◌, ◌<◌, ◌≤◌, Bool, true, false, cond, List, ◌++◌, length, take, sym, refl, ap, ◌∙◌, subst, add-zero, zero-add, arith, length-take-le}
+use Rattle.std.proofs.Common.{◌≡◌, ℕ, suc, ◌+◌, ◌≤◌, Bool, true, false, cond, List, ◌++◌, length, take, sym, refl, ap, ◌∙◌, arith, length-take-le}
 use Rattle.std.proofs.lemmas.Bool.{le-leb, lt-leb}
 use Rattle.roles.specs.Meaning.{Meaning}
 use Rattle.tables.specs.declared.entry.Entry.{Entry}
 use Rattle.machine.specs.Labelled.{tree}
 use Rattle.machine.specs.Plans.{step}
-use Rattle.machine.specs.Turns.{State, Turn, turn, turned, rests, moves, role_fault, shape_fault, Advanced, idle, one_more, room, push, moved, advance, added_to}
+use Rattle.machine.specs.Turns.{State, Turn, turn, turned, Advanced, idle, one_more, room, push, moved, advance, added_to}
 use Rattle.runs.specs.declared.find.Found.{Found}
 use Rattle.runs.specs.declared.find.Found.TheVariants.{Ready, Redex, Refused, Misfit}
 use Rattle.runs.specs.declared.turn.Turned.{Turned}
 use Rattle.runs.specs.declared.turn.Turned.TheVariants.{Rests, Moves, Refuses, Misfits, Full}
-use Rattle.machine.specs.declared.condition.Condition.{Condition}
 use Rattle.machine.specs.declared.condition.Condition.TheVariants.{TableFull}
 use Rattle.runs.specs.Find.{met_of}
-use Rattle.runs.specs.Table.{TurnIs, Live, state, advanced, ended_of, idle_of}
+use Rattle.runs.specs.Table.{TurnIs, state, advanced, ended_of, idle_of}
 use Rattle.runs.proofs.Grounding.{take_laid}
 use Rattle.runs.proofs.Turning.{turn_is}
 

@@ -1,13 +1,13 @@
 -- What a copy writes, by the entry's tag. Assumes nothing.
-use Rattle.std.proofs.Common.{◌≡◌, ℕ, zero, suc, ◌+◌, ◌-◌, ◌<◌, ◌≤◌, Bool, true, false, cond, ◌&&◌, ◌||◌, eqb, ltb, ◌⊎◌, List, [], ◌∷◌, ◌++◌, length, get_or, sym, refl, ap, ◌∙◌, subst, inl, inr, ⊎_elim, true≢false, add-one, arith, lt-ltb}
+use Rattle.std.proofs.Common.{◌≡◌, ℕ, suc, ◌+◌, ◌<◌, ◌≤◌, true, false, cond, List, [], ◌∷◌, ◌++◌, length, get_or, sym, refl, ap, ◌∙◌, subst, add-one, arith, lt-ltb}
 use mathlib.Core.Bool.{false≢true}
 use Rattle.std.proofs.lemmas.Bool.{le-ltb, and_parts}
 use Rattle.tables.specs.declared.entry.Entry.{Entry}
-use Rattle.machine.specs.Labelled.{Leaf, constants, variables, One, abstracts, fixes, guards, checks, units, raises, restricts, Two, applies, lets, Head, none, leafs, ones, twos, head, entry_one, entry_two, Tree, stray, leaf, one, two, label, tree, inside, beside, closed}
-use Rattle.machine.specs.Plans.{Plan, old, new_one, new_two, Written, write, free, replace}
+use Rattle.machine.specs.Labelled.{constants, variables, Head, none, leafs, ones, twos, head, entry_one, entry_two, Tree, stray, leaf, one, two, label, tree, inside, beside, closed}
+use Rattle.machine.specs.Plans.{old, new_one, new_two, Written, write, free, replace}
 use Rattle.machine.specs.Theorems.{rooted, Lower}
 use Rattle.machine.proofs.Closing.{inside_suc, beside_suc}
-use Rattle.runs.specs.Reach.{no_entry, reach_of, Tagged, Ground, Known}
+use Rattle.runs.specs.Reach.{no_entry, reach_of, Tagged, Ground}
 use Rattle.runs.specs.Copy.{copied, Copiable, names, first_within, second_within, renewal}
 use Rattle.runs.proofs.Tags.{made, by_tag, tree_at, lower_at, tagged_at}
 use Rattle.runs.proofs.Reaching.{free_is}

@@ -1,18 +1,17 @@
 -- The step of an entry, by its tag and that of its first operand. Assumes nothing.
-use Rattle.std.proofs.Common.{◌≡◌, ℕ, zero, suc, ◌+◌, ◌-◌, ◌<◌, ◌≤◌, Bool, true, false, cond, ◌&&◌, ◌||◌, eqb, List, [], ◌∷◌, ◌++◌, length, get_or, Some, None, Option, sym, refl, ap, ◌∙◌, subst, true≢false, add-one, arith}
+use Rattle.std.proofs.Common.{◌≡◌, ℕ, ◌+◌, ◌<◌, ◌≤◌, Bool, true, false, cond, eqb, List, length, get_or, Some, None, Option, sym, refl, ap, ◌∙◌, true≢false, add-one, arith}
 use mathlib.Core.Bool.{false≢true}
 use Rattle.roles.specs.Meaning.{Meaning}
 use Rattle.tables.specs.declared.entry.Entry.{Entry}
-use Rattle.machine.specs.Labelled.{One, abstracts, fixes, guards, checks, units, raises, restricts, Two, applies, lets, Head, none, leafs, ones, twos, head, Tree, stray, leaf, one, two, tree}
+use Rattle.machine.specs.Labelled.{fixes, checks, raises, restricts, applies, lets, head, Tree, one, tree}
 use Rattle.machine.specs.Plans.{Plan, old, new_one, new_two, replace, Met, ready, makes, refused, misfit, valued, call, granted, test, hand, inward, under, step}
 use Rattle.machine.specs.Theorems.{rooted, Lower}
-use Rattle.runs.specs.declared.find.Act.{Act}
-use Rattle.runs.specs.declared.find.Act.TheVariants.{Place, Unit, Share}
+use Rattle.runs.specs.declared.find.Act.TheVariants.{Place, Unit}
 use Rattle.runs.specs.declared.find.Found.{Found}
 use Rattle.runs.specs.declared.find.Found.TheVariants.{Ready, Redex, Refused, Misfit}
 use Rattle.runs.specs.Reach.{no_entry, Tagged, Ground}
-use Rattle.runs.specs.Find.{act_plan, wrap, along, met_of, path_of, is_ready, value_tag, found_here, role_within, one_out}
-use Rattle.runs.proofs.Tags.{made, by_tag, retag, tree_at, lower_at, tagged_at}
+use Rattle.runs.specs.Find.{wrap, along, met_of, path_of, is_ready, value_tag, found_here, role_within, one_out}
+use Rattle.runs.proofs.Tags.{by_tag, retag, tree_at, lower_at, tagged_at}
 
 valued_is : (f : Entry) (j : ℕ) (t u : Tree) → Tagged f → valued (rooted j t u (head f)) ≡ value_tag f.tag
 valued_is f j t u g =

@@ -1,17 +1,15 @@
 -- What is found fits the table. Assumes nothing.
-use Rattle.std.proofs.Common.{◌≡◌, ℕ, zero, suc, ◌+◌, ◌-◌, ◌<◌, ◌≤◌, Bool, true, false, cond, eqb, List, [], ◌∷◌, ◌++◌, length, get_or, sym, refl, ap, ◌∙◌, subst, true≢false, add-one, arith, eqb-true}
-use mathlib.Core.Bool.{false≢true}
+use Rattle.std.proofs.Common.{◌≡◌, ℕ, ◌<◌, Bool, true, false, cond, eqb, List, length, get_or, sym, refl, ap, ◌∙◌, subst, true≢false, add-one, arith, eqb-true}
 use Rattle.std.proofs.lemmas.Bool.{and_parts}
 use Rattle.tables.specs.declared.entry.Entry.{Entry}
-use Rattle.machine.specs.Labelled.{Head, head, Tree, tree, closed}
+use Rattle.machine.specs.Labelled.{head, Tree, tree, closed}
 use Rattle.machine.specs.Theorems.{rooted, Lower}
-use Rattle.runs.specs.declared.find.Act.{Act}
-use Rattle.runs.specs.declared.find.Act.TheVariants.{Place, Unit, Share}
+use Rattle.runs.specs.declared.find.Act.TheVariants.{Place, Unit}
 use Rattle.runs.specs.declared.find.Found.{Found}
 use Rattle.runs.specs.declared.find.Found.TheVariants.{Ready, Redex, Refused, Misfit}
 use Rattle.runs.specs.Reach.{no_entry, Tagged, Ground}
 use Rattle.runs.specs.Copy.{names}
-use Rattle.runs.specs.Find.{value_tag, found_here, one_out, ActFits, PathFits, FoundFits}
+use Rattle.runs.specs.Find.{value_tag, found_here, one_out, PathFits, FoundFits}
 use Rattle.runs.proofs.Tags.{made, by_tag, retag, tree_at, lower_at, tagged_at}
 
 closed_body : (f : Entry) (k : ℕ) (t u : Tree) → f.tag ≡ 18 → closed 0 (rooted k t u (head f)) ≡ true → closed 1 t ≡ true

@@ -1,14 +1,12 @@
 -- A loop of turns on a run. Assumes nothing.
-use Rattle.std.proofs.Common.{◌≡◌, ℕ, zero, suc, ◌+◌, ◌-◌, ◌<◌, ◌≤◌, Bool, true, false, cond, List, ◌++◌, length, take, drop, sym, refl, ap, ◌∙◌, subst, true≢false, arith, length-append, length-take-le, drop-drop}
+use Rattle.std.proofs.Common.{◌≡◌, ℕ, suc, ◌+◌, ◌-◌, ◌<◌, ◌≤◌, Bool, true, false, cond, List, length, take, drop, sym, refl, ap, ◌∙◌, subst, true≢false, arith, drop-drop}
 use mathlib.Core.Bool.{false≢true}
 use Rattle.roles.specs.Meaning.{Meaning}
 use Rattle.tables.specs.declared.entry.Entry.{Entry}
 use Rattle.machine.specs.Labelled.{tree}
 use Rattle.machine.specs.Plans.{step}
-use Rattle.machine.specs.Turns.{State, Advanced, one_more, advance, added_to}
+use Rattle.machine.specs.Turns.{Advanced, advance, added_to}
 use Rattle.machine.specs.Conditions.{ends}
-use Rattle.machine.specs.declared.condition.Condition.{Condition}
-use Rattle.machine.specs.declared.condition.Condition.TheVariants.{Going, Finished, RoleFault, ShapeFault, TableFull}
 use Rattle.runs.specs.declared.find.Found.{Found}
 use Rattle.runs.specs.declared.turn.Turned.{Turned}
 use Rattle.runs.specs.declared.turn.Turned.TheVariants.{Rests, Moves, Refuses, Misfits, Full}

@@ -1,5 +1,5 @@
 -- What a turn appends is grounded. Assumes nothing.
-use Rattle.std.proofs.Common.{◌≡◌, ℕ, zero, suc, ◌+◌, ◌-◌, ◌<◌, ◌≤◌, Bool, true, false, ◌⊎◌, List, [], ◌∷◌, ◌++◌, length, get_or, take, drop, sym, refl, ap, ◌∙◌, subst, inl, inr, ⊎_elim, append_assoc, arith, length-append, length-take-le, take-take, take_at}
+use Rattle.std.proofs.Common.{◌≡◌, ℕ, zero, suc, ◌+◌, ◌<◌, ◌≤◌, true, List, [], ◌∷◌, ◌++◌, length, get_or, take, drop, sym, refl, ap, ◌∙◌, subst, ⊎_elim, append_assoc, arith, length-append, length-take-le, take-take, take_at}
 use Rattle.machine.proofs.Unfolding.{trees_stay_lem}
 use Rattle.runs.specs.Copy.{laid}
 use Rattle.std.proofs.lemmas.List.{length_push, get_or_push, get_or_append_left, take-append-drop}
@@ -8,7 +8,7 @@ use Rattle.roles.specs.Meaning.{Meaning}
 use Rattle.tables.specs.declared.entry.Entry.{Entry}
 use Rattle.machine.specs.Labelled.{One, abstracts, fixes, guards, checks, units, raises, restricts, Two, applies, lets, head, entry_one, entry_two, Tree, stray, leaf, one, two, label, trees, tree, closed}
 use Rattle.machine.specs.Plans.{Plan, old, new_one, new_two, Written, write, Met, ready, makes, refused, misfit, step}
-use Rattle.machine.specs.Turns.{State, Turn, turn, turned, rests, moves, role_fault, shape_fault}
+use Rattle.machine.specs.Turns.{turn, turned, moves}
 use Rattle.machine.specs.Theorems.{Lower}
 use Rattle.machine.proofs.Growing.{append-nil, length_trees, Held, there, held_at, HeldPlan, closed_whole, trees_held}
 use Rattle.machine.proofs.Stable.{MetBy}

@@ -1,19 +1,18 @@
 -- Advances one after the other. Assumes nothing.
-use Rattle.std.proofs.Common.{◌≡◌, ℕ, zero, suc, ◌+◌, ◌-◌, ◌^◌, ◌<◌, ◌≤◌, Bool, true, false, cond, ◌&&◌, ltb, leb, ◌⊎◌, List, [], ◌∷◌, ◌++◌, length, get_or, take, drop, Some, None, Option, sym, refl, ap, ◌∙◌, subst, subst₂, inl, inr, ⊎_elim, true≢false, arith, length-append, length-drop, length-take-le, get_or-take, drop-drop, take_at, drop_at}
+use Rattle.std.proofs.Common.{◌≡◌, ℕ, zero, suc, ◌+◌, ◌-◌, ◌^◌, ◌<◌, ◌≤◌, Bool, true, false, cond, ◌&&◌, ltb, leb, ◌⊎◌, List, ◌++◌, length, take, drop, Some, None, Option, sym, refl, ap, ◌∙◌, subst, subst₂, ⊎_elim, true≢false, arith, length-append, length-drop, length-take-le, get_or-take, drop-drop, take_at, drop_at}
 use mathlib.Core.Bool.{false≢true}
 use Rattle.std.proofs.lemmas.List.{get_or_append_left}
 use Rattle.std.proofs.lemmas.Bool.{and_parts, and_from, ltb-true, lt-ltb, leb-true, le-leb, cases_Bool, cases_eq}
 use Rattle.roles.specs.Meaning.{Meaning}
-use Rattle.roles.specs.declared.scheme.SchemeFault.TheVariants.{Unsound}
 use Rattle.tables.specs.declared.entry.Entry.{Entry}
 use Rattle.machine.specs.Labelled.{tree, closed}
 use Rattle.machine.specs.Conditions.{ends}
-use Rattle.machine.specs.Turns.{State, Turn, rests, moves, role_fault, shape_fault, turn, moved, Advanced, idle, one_more, room, push, advance, walk, added_to}
+use Rattle.machine.specs.Turns.{State, Turn, rests, moves, role_fault, shape_fault, turn, moved, Advanced, idle, one_more, push, advance, added_to}
 use Rattle.machine.specs.declared.condition.Condition.{Condition}
 use Rattle.machine.specs.declared.condition.Condition.TheVariants.{Going, Finished, RoleFault, ShapeFault, TableFull}
-use Rattle.machine.proofs.Walking.{Extends, walk_extends, Told, Tells, advance_tells, advance_on, advance_off}
+use Rattle.machine.proofs.Walking.{walk_extends, Told, Tells, advance_tells, advance_on, advance_off}
 use Rattle.runs.specs.declared.fault.RunFault.{RunFault}
-use Rattle.runs.specs.declared.fault.RunFault.TheVariants.{Scheme, Role, Unusable, Ended, Budget}
+use Rattle.runs.specs.declared.fault.RunFault.TheVariants.{Ended}
 use Rattle.runs.specs.declared.run.Run.{Run}
 use Rattle.runs.specs.Reach.{no_entry}
 use Rattle.runs.specs.Table.{state}
@@ -21,7 +20,7 @@ use Rattle.runs.specs.Usable.{passes, all_pass, usable}
 use Rattle.runs.specs.Run.{refusal, gone, settled, run_after, terms_after}
 use Rattle.runs.proofs.Using.{passed_by}
 use Rattle.runs.specs.Parts.{left_run, left_terms, told_by, retold, unless_ended, Parted, InParts}
-use Rattle.runs.proofs.Passing.{Passing, Fine, walk_fine, all_by}
+use Rattle.runs.proofs.Passing.{Fine, walk_fine, all_by}
 
 -- tests, answered
 yes : {A : Type 0} (b : Bool) (x y : A) → b ≡ true → cond b x y ≡ x

@@ -1,5 +1,5 @@
 -- Entries laid into a table from a place on. Assumes nothing.
-use Rattle.std.proofs.Common.{◌≡◌, ℕ, zero, suc, ◌+◌, ◌-◌, ◌<◌, ◌≤◌, List, [], ◌∷◌, ◌++◌, length, get_or, take, drop, set, sym, refl, ap, ◌∙◌, subst, append_assoc, add-zero, add_assoc, add-one, arith, length-append, length-take-le, take-take, drop-drop, take_at, drop_at}
+use Rattle.std.proofs.Common.{◌≡◌, ℕ, ◌+◌, ◌<◌, ◌≤◌, List, [], ◌∷◌, ◌++◌, length, take, drop, set, sym, ap, ◌∙◌, append_assoc, add-zero, add_assoc, add-one, arith, length-append, length-take-le, take-take, drop-drop, take_at, drop_at}
 use lib.Seq.{take-append-le, set_split}
 use Rattle.std.proofs.lemmas.List.{take-append-drop}
 use Rattle.tables.specs.declared.entry.Entry.{Entry}

@@ -1,13 +1,12 @@
 -- What a step writes along its path. Assumes nothing.
-use Rattle.std.proofs.Common.{◌≡◌, ℕ, zero, suc, ◌+◌, ◌-◌, ◌<◌, ◌≤◌, List, [], ◌∷◌, ◌++◌, length, get_or, take, set, sym, refl, ap, ◌∙◌, subst, arith, length-append, length-take-le, get_or-take}
+use Rattle.std.proofs.Common.{◌≡◌, ℕ, zero, suc, ◌+◌, ◌<◌, ◌≤◌, List, [], ◌∷◌, ◌++◌, length, get_or, take, set, sym, refl, ap, ◌∙◌, subst, arith, length-append, length-take-le, get_or-take}
 use Rattle.tables.specs.declared.entry.Entry.{Entry}
-use Rattle.machine.specs.Labelled.{One, Two, Head, none, leafs, ones, twos, head, entry_one, entry_two, Tree, tree, label, closed}
-use Rattle.machine.specs.Plans.{Plan, old, new_one, new_two, Written, write}
-use Rattle.machine.specs.Theorems.{Lower}
+use Rattle.machine.specs.Labelled.{Head, none, leafs, ones, twos, head, entry_two, Tree, tree, label}
+use Rattle.machine.specs.Plans.{Plan, old, Written, write}
 use Rattle.machine.proofs.Growing.{append-nil}
 use Rattle.runs.specs.declared.find.Act.{Act}
 use Rattle.runs.specs.declared.find.Act.TheVariants.{Place, Unit, Share}
-use Rattle.runs.specs.Reach.{no_entry, Tagged, Ground, Known}
+use Rattle.runs.specs.Reach.{no_entry, Ground, Known}
 use Rattle.runs.specs.Copy.{laid, places, names, renewal, Copiable}
 use Rattle.runs.specs.Find.{act_plan, wrap, along, ActFits, PathFits}
 use Rattle.runs.proofs.Tags.{lower_at, tagged_at}

@@ -1,10 +1,10 @@
 -- An advance at the table runs the calculus. Assumes nothing.
-use Rattle.std.proofs.Common.{◌≡◌, ℕ, zero, suc, ◌+◌, ◌-◌, ◌<◌, ◌≤◌, Bool, true, false, leb, ◌⊎◌, List, [], ◌∷◌, ◌++◌, length, get_or, take, drop, Err, Result, sym, refl, ap, ◌∙◌, subst, subst₂, inl, inr, ⊎_elim, arith, length-append, length-take-le, take-take, take_at}
-use Rattle.std.proofs.lemmas.List.{take-append-drop, get_or_append_left}
+use Rattle.std.proofs.Common.{◌≡◌, ℕ, zero, suc, ◌+◌, ◌<◌, ◌≤◌, true, leb, List, [], length, get_or, take, drop, Err, Result, sym, refl, ap, ◌∙◌, subst, subst₂, ⊎_elim, arith, length-append, length-take-le, take-take, take_at}
+use Rattle.std.proofs.lemmas.List.{take-append-drop}
 use Rattle.std.proofs.lemmas.Bool.{leb-false, le-leb, cases_eq, and_from}
 use Rattle.roles.specs.Meaning.{Meaning}
-use Rattle.calculus.specs.Syntax.{Ty, Term, variable}
-use Rattle.calculus.specs.Steps.{Value, Step, CanStep, IsRoleFault, IsShapeFault, Steps}
+use Rattle.calculus.specs.Syntax.{Term, variable}
+use Rattle.calculus.specs.Steps.{Value, CanStep, IsRoleFault, IsShapeFault, Steps}
 use Rattle.tables.specs.declared.entry.Entry.{Entry}
 use Rattle.tables.specs.Entries.{at, term_tag}
 use Rattle.tables.specs.Ladder.{ladder}
@@ -13,24 +13,23 @@ use Rattle.tables.proofs.Ladders.{get_or_ladder}
 use Rattle.trees.specs.Trees.{type_of, term_by, term_step, term_of}
 use Rattle.trees.proofs.Unfolding.{term_same}
 use Rattle.trees.proofs.Keeping.{keeps}
-use Rattle.machine.specs.Labelled.{Head, head, Tree, tree, erase}
+use Rattle.machine.specs.Labelled.{head, tree, erase}
 use Rattle.machine.specs.Plans.{Met, ready, makes, refused, misfit, step}
-use Rattle.machine.specs.Refused.{RefusedAt}
 use Rattle.machine.specs.Theorems.{rooted, Lower}
-use Rattle.machine.specs.Turns.{State, Turn, rests, moves, role_fault, shape_fault, turned, turn, moved, Advanced, advance, term, Agrees, room}
+use Rattle.machine.specs.Turns.{State, Turn, rests, moves, role_fault, shape_fault, turned, turn, Advanced, term, Agrees}
 use Rattle.machine.specs.declared.condition.Condition.{Condition}
 use Rattle.machine.specs.declared.condition.Condition.TheVariants.{Going, Finished, RoleFault, ShapeFault, TableFull}
-use Rattle.machine.proofs.Walking.{Sound, turn_agrees, walk_steps, Extends, walk_extends, Told, Tells, advance_tells}
+use Rattle.machine.proofs.Walking.{Sound, turn_agrees, walk_steps, walk_extends, Told, Tells, advance_tells}
 use Rattle.machine.proofs.Agreeing.{closed_sound}
 use Rattle.machine.proofs.Refusing.{refusals_told_lem}
 use Rattle.runs.specs.declared.run.Run.{Run}
-use Rattle.runs.specs.Reach.{no_entry, Tagged, Ground}
+use Rattle.runs.specs.Reach.{Tagged, Ground}
 use Rattle.runs.specs.Table.{Live, state, advanced}
 use Rattle.runs.specs.declared.fault.RunFault.{RunFault}
 use Rattle.runs.specs.declared.run.Progress.{Progress}
 use Rattle.runs.specs.Meant.{Halts, Ran, Meant}
 use Rattle.runs.specs.Went.{Went}
-use Rattle.runs.proofs.Tags.{made, by_tag, tree_at}
+use Rattle.runs.proofs.Tags.{by_tag, tree_at}
 
 -- the term of a numbered tree is the term of its entry
 term_tagged : (e : Entry) → Tagged e → term_tag e.tag ≡ true

@@ -1,15 +1,14 @@
 -- Entries that a step appends pass as those before them did. Assumes nothing.
-use Rattle.std.proofs.Common.{◌≡◌, ℕ, zero, suc, ◌+◌, ◌-◌, ◌<◌, ◌≤◌, Bool, true, false, cond, ◌&&◌, ◌||◌, eqb, ltb, ◌⊎◌, List, [], ◌∷◌, ◌++◌, length, get_or, take, Some, None, Option, sym, refl, ap, ◌∙◌, subst, inl, inr, ⊎_elim, true≢false, append_assoc, arith, length-append}
-use mathlib.Core.Bool.{false≢true}
-use Rattle.std.proofs.lemmas.List.{length_push, take-append-drop}
+use Rattle.std.proofs.Common.{◌≡◌, ℕ, zero, suc, ◌+◌, ◌<◌, ◌≤◌, Bool, true, false, cond, ◌&&◌, ◌||◌, eqb, ltb, ◌⊎◌, List, [], ◌∷◌, ◌++◌, length, get_or, take, Some, sym, refl, ap, ◌∙◌, subst, inl, inr, ⊎_elim, true≢false, append_assoc, arith, length-append}
+use Rattle.std.proofs.lemmas.List.{length_push}
 use Rattle.std.proofs.lemmas.Bool.{and_parts, and_from, lt-ltb, cases_eq}
 use Rattle.roles.specs.Meaning.{Meaning}
 use Rattle.tables.specs.declared.entry.Entry.{Entry}
-use Rattle.tables.specs.Entries.{term_tag, role_fits, role_tag}
-use Rattle.machine.specs.Labelled.{Leaf, constants, variables, One, abstracts, fixes, guards, checks, units, raises, restricts, Two, applies, lets, Head, none, leafs, ones, twos, head, entry_one, entry_two, Tree, stray, leaf, one, two, label, trees, tree, inside, beside, closed}
+use Rattle.tables.specs.Entries.{term_tag, role_fits}
+use Rattle.machine.specs.Labelled.{constants, variables, One, abstracts, fixes, guards, checks, units, raises, restricts, Two, applies, lets, head, entry_one, entry_two, Tree, stray, leaf, one, two, trees, tree, inside, beside}
 use Rattle.machine.specs.Plans.{Plan, old, new_one, new_two, Written, write, free, replace, Met, ready, makes, refused, misfit, step}
 use Rattle.machine.specs.Theorems.{rooted, Lower, Closed}
-use Rattle.machine.specs.Turns.{State, Turn, rests, moves, role_fault, shape_fault, turned, turn, moved, room, pushed, once, after, walk}
+use Rattle.machine.specs.Turns.{State, turned, moved, room, pushed, once, walk}
 use Rattle.machine.proofs.Growing.{append-nil, length_trees, HeldPlan, closed_whole, trees_held}
 use Rattle.machine.proofs.Stable.{Stable, MetBy, step_stable}
 use Rattle.machine.proofs.Keeping.{step_held}
@@ -17,7 +16,7 @@ use Rattle.machine.proofs.Walking.{some_of, none_of, cond_some, after_some}
 use Rattle.machine.proofs.Agreeing.{turns_close_lem}
 use Rattle.runs.specs.Reach.{no_entry, Tagged, Ground}
 use Rattle.runs.specs.Usable.{plain_operands, passes, all_pass}
-use Rattle.runs.proofs.Tags.{made, by_tag, tree_at}
+use Rattle.runs.proofs.Tags.{by_tag, tree_at}
 use Rattle.runs.proofs.Grounding.{LowPlan, low_up, snoc_all, held_low}
 use Rattle.runs.proofs.Using.{Passed, ground_by, open_past}
 

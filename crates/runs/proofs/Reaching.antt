@@ -1,14 +1,14 @@
 -- Reaches, closed trees and free variables. Assumes nothing.
-use Rattle.std.proofs.Common.{◌≡◌, ℕ, zero, suc, ◌+◌, ◌-◌, ◌<◌, ◌≤◌, max, Bool, true, false, cond, ◌&&◌, ◌||◌, eqb, ltb, ◌⊎◌, List, [], ◌∷◌, ◌++◌, length, get_or, sym, refl, ap, ◌∙◌, subst, inl, inr, ⊎_elim, true≢false, add-one, arith, ltb-true, lt-ltb, eqb-true}
+use Rattle.std.proofs.Common.{◌≡◌, ℕ, suc, ◌-◌, ◌<◌, ◌≤◌, max, Bool, true, false, ◌||◌, ltb, ◌⊎◌, List, length, get_or, sym, refl, ap, ◌∙◌, inl, inr, ⊎_elim, add-one, arith, ltb-true, lt-ltb, eqb-true}
 use mathlib.Core.Bool.{false≢true}
 use Rattle.std.proofs.lemmas.Bool.{cases_Bool, le-ltb, and_parts, and_from}
 use Rattle.tables.specs.declared.entry.Entry.{Entry}
-use Rattle.machine.specs.Labelled.{Leaf, constants, variables, One, abstracts, fixes, guards, checks, units, raises, restricts, Two, applies, lets, Head, none, leafs, ones, twos, head, Tree, stray, leaf, one, two, tree, inside, beside, closed}
+use Rattle.machine.specs.Labelled.{constants, variables, One, abstracts, fixes, guards, checks, units, raises, restricts, Two, applies, lets, head, Tree, stray, leaf, one, two, tree, inside, beside, closed}
 use Rattle.machine.specs.Plans.{free}
 use Rattle.machine.specs.Theorems.{rooted, Lower}
 use Rattle.machine.proofs.Closing.{closed_down}
-use Rattle.runs.specs.Reach.{no_entry, outside, outside_two, reach_of, Tagged, Ground, Known, lower, step_of}
-use Rattle.runs.proofs.Tags.{made, by_tag, tree_at, lower_at, tagged_at, small_at}
+use Rattle.runs.specs.Reach.{no_entry, outside, outside_two, reach_of, Tagged, Ground, lower, step_of}
+use Rattle.runs.proofs.Tags.{by_tag, tree_at, lower_at, tagged_at}
 
 outside_low : (h : One) (r d : ℕ) → r ≤ inside h d → outside h r ≤ d
 outside_low (abstracts c₁ c₂) r d k = omega arith

@@ -1,12 +1,12 @@
 -- A copy at the table, step by step. Assumes nothing.
-use Rattle.std.proofs.Common.{◌≡◌, ℕ, zero, suc, ◌+◌, ◌-◌, ◌<◌, ◌≤◌, ◌⊎◌, List, [], ◌∷◌, ◌++◌, length, get_or, take, set, sym, refl, ap, ◌∙◌, subst, inl, inr, ⊎_elim, arith, length-append, length-take-le, get_or-take}
+use Rattle.std.proofs.Common.{◌≡◌, ℕ, ◌+◌, ◌<◌, ◌≤◌, List, [], ◌∷◌, ◌++◌, length, get_or, take, set, sym, refl, ap, ◌∙◌, subst, ⊎_elim, arith, length-append, length-take-le, get_or-take}
 use Rattle.std.proofs.lemmas.Bool.{cases_eq}
 use Rattle.tables.specs.declared.entry.Entry.{Entry}
 use Rattle.machine.specs.Plans.{Written}
 use Rattle.runs.specs.Reach.{no_entry}
 use Rattle.runs.specs.Copy.{laid, copied, Copiable, names, first_within, second_within, renewal}
 use Rattle.runs.proofs.Laying.{laid_take, laid_laid, still, over, put}
-use Rattle.runs.proofs.Copying.{shared, leafy, first_lower, operands_two, second_lower, first_copiable, second_copiable, single, double}
+use Rattle.runs.proofs.Copying.{leafy, first_lower, operands_two, second_lower, first_copiable, second_copiable, single, double}
 
 module _ (es : List Entry) (rs : List ℕ) (base d w i u : ℕ) (C : Copiable (take base es) rs d w i) (bu : base ≤ u)
     (room : u + length (copied (take base es) u d w i).entries ≤ length es) where

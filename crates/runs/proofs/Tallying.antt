@@ -1,11 +1,10 @@
 -- How many entries a copy takes. Assumes nothing.
-use Rattle.std.proofs.Common.{◌≡◌, ℕ, zero, suc, ◌+◌, ◌-◌, ◌<◌, ◌≤◌, List, [], ◌∷◌, ◌++◌, length, get_or, take, sym, refl, ap, ◌∙◌, subst, arith, length-append, length-take-le, get_or-take}
+use Rattle.std.proofs.Common.{◌≡◌, ℕ, ◌+◌, ◌<◌, ◌≤◌, List, [], ◌∷◌, ◌++◌, length, get_or, take, sym, refl, ap, ◌∙◌, arith, length-append, length-take-le, get_or-take}
 use Rattle.tables.specs.declared.entry.Entry.{Entry}
 use Rattle.machine.specs.Labelled.{entry_one, entry_two}
 use Rattle.machine.specs.Plans.{Plan, old, new_one, new_two, Written, write}
 use Rattle.runs.specs.Reach.{no_entry}
 use Rattle.runs.specs.Copy.{copied, places, count_of, Copiable, names, first_within, second_within, renewal}
-use Rattle.runs.proofs.Laying.{over}
 use Rattle.runs.proofs.Copying.{shared, leafy, first_lower, operands_two, second_lower, first_copiable, second_copiable, single, double}
 
 pub length_places : (b : ℕ) (p : Plan) → length (write b p).entries ≡ places p

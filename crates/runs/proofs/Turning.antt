@@ -1,13 +1,13 @@
 -- A turn. Assumes nothing.
-use Rattle.std.proofs.Common.{◌≡◌, ℕ, zero, suc, ◌+◌, ◌-◌, ◌<◌, ◌≤◌, List, [], ◌∷◌, ◌++◌, length, get_or, take, sym, refl, ap, ◌∙◌, subst, arith, length-take-le}
+use Rattle.std.proofs.Common.{◌≡◌, ℕ, ◌+◌, ◌≤◌, List, length, take, ap, ◌∙◌, subst, length-take-le}
 use Rattle.roles.specs.Meaning.{Meaning}
 use Rattle.tables.specs.declared.entry.Entry.{Entry}
 use Rattle.machine.specs.Labelled.{tree}
-use Rattle.machine.specs.Plans.{Plan, Written, write, Met, ready, makes, refused, misfit, step}
-use Rattle.machine.specs.Turns.{State, Turn, turn, turned, rests, moves, role_fault, shape_fault}
+use Rattle.machine.specs.Plans.{write, Met, step}
+use Rattle.machine.specs.Turns.{turn, turned}
 use Rattle.runs.specs.declared.find.Act.{Act}
 use Rattle.runs.specs.declared.find.Found.{Found}
-use Rattle.runs.specs.declared.find.Found.TheVariants.{Ready, Redex, Refused, Misfit}
+use Rattle.runs.specs.declared.find.Found.TheVariants.{Redex}
 use Rattle.runs.specs.Reach.{Ground}
 use Rattle.runs.specs.Copy.{places}
 use Rattle.runs.specs.Find.{act_plan, along, met_of, ActFits, PathFits, FoundFits}

@@ -1,18 +1,17 @@
 -- Entries that pass are ground, and a reach of 0 tells a closed tree. Assumes nothing.
-use Rattle.std.proofs.Common.{◌≡◌, ℕ, zero, suc, ◌+◌, ◌-◌, ◌<◌, ◌≤◌, max, Bool, true, false, cond, ◌&&◌, ◌||◌, eqb, ltb, leb, ◌⊎◌, List, [], ◌∷◌, ◌++◌, length, get_or, take, sym, refl, ap, ◌∙◌, subst, inl, inr, ⊎_elim, true≢false, arith, length-take-le, get_or-take}
-use mathlib.Core.Bool.{false≢true}
+use Rattle.std.proofs.Common.{◌≡◌, ℕ, zero, suc, ◌+◌, ◌-◌, ◌<◌, ◌≤◌, Bool, true, false, ◌&&◌, eqb, ltb, leb, List, length, get_or, take, sym, refl, ap, ◌∙◌, subst, ⊎_elim, true≢false, arith, length-take-le, get_or-take}
 use Rattle.std.proofs.lemmas.List.{get_or_past}
-use Rattle.std.proofs.lemmas.Bool.{and_parts, and_from, ltb-true, lt-ltb, le-ltb, leb-true, le-leb, eqb-true, cases_Bool, cases_eq}
+use Rattle.std.proofs.lemmas.Bool.{and_parts, and_from, ltb-true, lt-ltb, leb-true, le-leb, eqb-true, cases_Bool, cases_eq}
 use Rattle.tables.specs.declared.entry.Entry.{Entry}
-use Rattle.tables.specs.Entries.{at, term_tag, term_operands, role_fits, role_tag}
-use Rattle.machine.specs.Labelled.{Leaf, constants, variables, One, abstracts, fixes, guards, checks, units, raises, restricts, Two, applies, lets, Head, none, leafs, ones, twos, head, Tree, stray, leaf, one, two, trees, tree, inside, beside, closed}
+use Rattle.tables.specs.Entries.{term_tag, role_fits}
+use Rattle.machine.specs.Labelled.{constants, variables, One, abstracts, fixes, guards, checks, units, raises, restricts, Two, applies, lets, head, Tree, stray, leaf, one, two, trees, tree, inside, beside, closed}
 use Rattle.machine.specs.Theorems.{rooted, Lower}
 use Rattle.machine.proofs.Growing.{length_trees, Whole}
 use Rattle.runs.specs.Reach.{no_entry, outside, outside_two, reach_of, Tagged, Ground, Known}
 use Rattle.runs.specs.Usable.{plain_operands, passes, all_pass, usable}
 use Rattle.runs.specs.Table.{Live}
-use Rattle.runs.proofs.Tags.{made, by_tag, tree_at, lower_at}
-use Rattle.runs.proofs.Reaching.{closed_reach, step_reach, lower_is}
+use Rattle.runs.proofs.Tags.{by_tag, tree_at}
+use Rattle.runs.proofs.Reaching.{closed_reach}
 use Rattle.runs.proofs.Grounding.{tree_longer}
 
 tagged : (e : Entry) → term_tag e.tag ≡ true → Tagged e

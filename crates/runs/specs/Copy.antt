@@ -1,5 +1,5 @@
 -- A copy at the table. Assumes nothing.
-use Rattle.std.specs.Prelude.{◌≡◌, ℕ, suc, ◌+◌, ◌<◌, Bool, true, cond, ◌||◌, List, ◌++◌, length, take, drop, ◌==◌}
+use Rattle.std.specs.Prelude.{◌≡◌, ℕ, suc, ◌+◌, ◌<◌, true, cond, ◌||◌, List, ◌++◌, length, take, drop, ◌==◌}
 use Rattle.tables.specs.declared.entry.Entry.{Entry}
 pub use Rattle.tables.specs.Entries.{names}
 use Rattle.machine.specs.Labelled.{tree, closed}

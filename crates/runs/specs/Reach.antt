@@ -2,7 +2,7 @@
 use Rattle.std.specs.Prelude.{◌≡◌, ℕ, suc, ◌+◌, ◌-◌, ◌<◌, ◌≤◌, max, Bool, true, cond, ◌&&◌, ◌||◌, List, length, get_or, ◌==◌, nat_lt, slice_index, slice_index_or}
 use Rattle.tables.specs.declared.entry.Entry.{Entry}
 pub use Rattle.tables.specs.Entries.{no_entry}
-use Rattle.machine.specs.Labelled.{Leaf, constants, variables, One, abstracts, fixes, guards, checks, units, raises, restricts, Two, applies, lets, head, Tree, stray, leaf, one, two, tree}
+use Rattle.machine.specs.Labelled.{constants, variables, One, abstracts, fixes, guards, checks, units, raises, restricts, Two, applies, lets, head, Tree, stray, leaf, one, two, tree}
 use Rattle.machine.specs.Theorems.{Lower}
 
 -- A reach, seen from outside the binder that the head may be.

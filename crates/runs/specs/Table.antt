@@ -3,7 +3,7 @@ use Rattle.std.specs.Prelude.{◌≡◌, ℕ, ◌+◌, ◌<◌, ◌≤◌, Bool,
 use Rattle.roles.specs.Meaning.{Meaning}
 use Rattle.tables.specs.declared.entry.Entry.{Entry}
 use Rattle.machine.specs.Labelled.{tree, closed}
-use Rattle.machine.specs.Turns.{State, Turn, turn, rests, moves, role_fault, shape_fault, Advanced}
+use Rattle.machine.specs.Turns.{State, turn, rests, moves, role_fault, shape_fault, Advanced}
 use Rattle.machine.specs.declared.condition.Condition.{Condition}
 use Rattle.machine.specs.declared.condition.Condition.TheVariants.{Going, Finished, RoleFault, ShapeFault, TableFull}
 use Rattle.runs.specs.declared.find.Found.{Found}

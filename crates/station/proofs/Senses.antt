@@ -1,26 +1,22 @@
 -- A verdict means what its two checks say of the term that the image stands for.
-use Rattle.std.proofs.Common.{◌≡◌, ℕ, zero, suc, ◌+◌, ◌-◌, ◌<◌, ◌≤◌, List, [], ◌∷◌, ◌++◌, map, length, take, drop, Ok, Err, Result, sym, refl, ap, ◌∙◌, subst, ap₂, add-one, arith, length-append}
+use Rattle.std.proofs.Common.{◌≡◌, ℕ, zero, suc, ◌+◌, ◌-◌, List, map, length, take, drop, Ok, Err, Result, sym, refl, ap, ◌∙◌, subst, ap₂}
 use Rattle.std.specs.List.{range_with_len}
-use Rattle.std.proofs.lemmas.List.{take_at, take_more_same}
+use Rattle.std.proofs.lemmas.List.{take_at}
 use Rattle.roles.specs.Meaning.{Meaning, Lawful}
 use Rattle.calculus.specs.Syntax.{Term}
 use Rattle.calculus.specs.Subtyping.{System, sufficient, necessary}
-use Rattle.tables.specs.declared.entry.Counts.{Counts}
 use Rattle.tables.specs.declared.entry.Entry.{Entry}
-use Rattle.tables.specs.Entries.{at, no_entry}
 use Rattle.trees.specs.Trees.{term_of}
-use Rattle.walks.specs.Sense.{Within}
 use Rattle.jobs.specs.Asking.{Answer, told, left}
-use Rattle.jobs.specs.Image.{types_told, terms_told, types_in, terms_in, entry_at, entries}
-use Rattle.jobs.specs.Reading.{read_asked, read_told, counts_told, types_left, terms_left, filled}
+use Rattle.jobs.specs.Image.{types_told, terms_told, types_in, terms_in, entry_at}
+use Rattle.jobs.specs.Reading.{read_asked, counts_told, types_left, terms_left, filled}
 use Rattle.checks.specs.declared.fault.CheckFault.{CheckFault}
 use Rattle.checks.specs.declared.fault.CheckFault.TheVariants.{Form, Typing}
-use Rattle.checks.specs.Checking.{Checked, check_of}
+use Rattle.checks.specs.Checking.{check_of}
 use Rattle.checks.specs.Sense.{job_term, Says}
-use Rattle.checks.proofs.Meaning.{Meant, check_meant}
+use Rattle.checks.proofs.Meaning.{check_meant}
 use Rattle.checks.proofs.Repeating.{front_kept}
-use Rattle.station.specs.declared.verdict.Verdict.{Verdict}
-use Rattle.station.specs.Sense.{term_in, image_term, AnswerMeans, ImageMeans}
+use Rattle.station.specs.Sense.{image_term, AnswerMeans, ImageMeans}
 use Rattle.station.specs.Verdicts.{of_check, checked_both, types_blank, terms_blank, after_reading, image_verdict}
 
 says_means : (m : Meaning) (α : System) (e : Term) (a : Result ℕ CheckFault) → Says m α e a → AnswerMeans m α e (of_check a)

@@ -1,10 +1,10 @@
 -- Terms whose operands are as their tags ask name lower terms.
-use Rattle.std.proofs.Common.{◌≡◌, ℕ, ◌+◌, ◌<◌, Bool, true, List, length, Ok, sym, ◌∙◌, zero-add, arith}
+use Rattle.std.proofs.Common.{◌≡◌, ℕ, ◌+◌, Bool, true, List, length, Ok, sym, zero-add, arith}
 use Rattle.std.proofs.lemmas.Bool.Decides.{nat_tests}
 use Rattle.tables.specs.declared.entry.Entry.{Entry}
 use Rattle.tables.specs.declared.fault.FormFault.TheVariants.{Tag, Operands, Role}
 use Rattle.tables.specs.Asking.{asks, and_then, of_each}
-use Rattle.tables.specs.Entries.{at, names, type_tag, type_operands, term_tag, term_operands, role_fits}
+use Rattle.tables.specs.Entries.{at, type_tag, type_operands, term_tag, term_operands, role_fits}
 use Rattle.tables.specs.Form.{type_asked, term_asked, ask_term}
 use Rattle.tables.specs.Lower.{Lower, Rooted}
 use Rattle.tables.proofs.Asked.{and_first, and_second, asks_yes, each_yes}

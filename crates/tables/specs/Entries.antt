@@ -1,5 +1,5 @@
 -- What the tag of an entry asks of its operands. Assumes nothing.
-use Rattle.std.specs.Prelude.{ℕ, Bool, true, false, cond, not, ◌&&◌, ◌||◌, List, ◌==◌, nat_le, nat_lt, slice_index_or}
+use Rattle.std.specs.Prelude.{ℕ, Bool, cond, not, ◌&&◌, ◌||◌, List, ◌==◌, nat_le, nat_lt, slice_index_or}
 use Rattle.tables.specs.declared.entry.Entry.{Entry}
 
 -- What is read past a table's end.

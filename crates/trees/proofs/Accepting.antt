@@ -1,5 +1,5 @@
 -- The facts about accepted jobs, from those about formed tables.
-use Rattle.std.proofs.Common.{◌≡◌, ℕ, ◌+◌, ◌-◌, ◌<◌, ◌≤◌, Bool, true, ◌&&◌, leb, List, ◌++◌, length, take, drop, Ok, sym, refl, ap, ◌∙◌, ap₂, arith}
+use Rattle.std.proofs.Common.{◌≡◌, ℕ, ◌+◌, ◌-◌, ◌<◌, true, ◌&&◌, leb, List, ◌++◌, length, take, drop, Ok, sym, ap, ◌∙◌, ap₂, arith}
 use Rattle.roles.specs.Meaning.{Meaning}
 use Rattle.roles.specs.declared.scheme.SchemeFault.TheVariants.{Unsound}
 use Rattle.std.proofs.lemmas.List.{take-append-drop, length-take-le, get_or-take}
@@ -12,7 +12,7 @@ use Rattle.tables.specs.Entries.{at, no_entry}
 use Rattle.tables.specs.Form.{sound_asked, counts_asked, room_asked, form}
 use Rattle.tables.proofs.Asked.{and_first, and_second, asks_yes}
 use Rattle.trees.specs.Facts.{FormDecides, TreesUnfold, AcceptedClosed, AcceptedCoded, Coded}
-use Rattle.trees.specs.Formed.{Formed, Accepted}
+use Rattle.trees.specs.Formed.{Accepted}
 use Rattle.trees.specs.Trees.{type_by, type_of, term_by, term_of, coded}
 use Rattle.trees.proofs.Closing.{closed_last}
 use Rattle.trees.proofs.Coding.{types_coded, terms_coded}

@@ -1,5 +1,5 @@
 -- The role codes of trees are roles.
-use Rattle.std.proofs.Common.{◌≡◌, ℕ, zero, suc, ◌+◌, ◌<◌, ◌≤◌, Bool, true, ◌&&◌, eqb, ltb, List, length, sym, refl, ap, ◌∙◌, arith, lit<}
+use Rattle.std.proofs.Common.{◌≡◌, ℕ, zero, suc, ◌<◌, true, ◌&&◌, eqb, ltb, List, length, refl, ap, ◌∙◌, arith, lit<}
 use Rattle.roles.specs.Meaning.{Meaning}
 use Rattle.std.proofs.lemmas.Bool.{and_parts, and_from, ltb-true}
 use Rattle.calculus.specs.Subtyping.{well_coded}

@@ -1,9 +1,9 @@
 -- Where every term but the last is named once, the depth of a term is the one that the entry naming it hands down.
-use Rattle.std.proofs.Common.{◌≡◌, ℕ, zero, suc, ◌+◌, ◌-◌, ◌<◌, ◌≤◌, Bool, true, false, cond, ◌&&◌, eqb, ltb, ◌⊎◌, List, [], ◌∷◌, length, get_or, take, drop, set, replicate, sym, refl, ap, ◌∙◌, inl, inr, ⊎_elim, zero-add, add-one, arith}
+use Rattle.std.proofs.Common.{◌≡◌, ℕ, zero, suc, ◌+◌, ◌-◌, ◌<◌, ◌≤◌, Bool, true, false, cond, ◌&&◌, eqb, ltb, ◌⊎◌, List, [], ◌∷◌, length, get_or, take, drop, set, sym, refl, ap, ◌∙◌, inl, inr, ⊎_elim, add-one, arith}
 use Rattle.std.proofs.lemmas.List.{get_or-set_same, get_or-set_other, drop_all}
-use Rattle.std.proofs.lemmas.Bool.{eqb-true, eqb-false, eq-eqb, ne_eqb, lt-ltb, ltb-true, cases_Bool, cases_lt, and_left, and_right, and_from, false≢true}
+use Rattle.std.proofs.lemmas.Bool.{eqb-true, eqb-false, ne_eqb, ltb-true, cases_Bool, cases_lt, and_left, and_right, false≢true}
 use Rattle.tables.specs.declared.entry.Entry.{Entry}
-use Rattle.tables.specs.Depths.{binds_first, binds_second, hand_first, hand_second, hand, depths_from, depths}
+use Rattle.tables.specs.Depths.{binds_first, binds_second, hand_first, hand, depths_from, depths}
 use Rattle.tables.specs.Entries.{at, names}
 use Rattle.tables.specs.Lower.{Lower, Rooted}
 use Rattle.tables.specs.Uses.{hits, uses}

@@ -1,12 +1,12 @@
 -- Entries that are appended leave trees as they were.
-use Rattle.std.proofs.Common.{◌≡◌, ℕ, ◌+◌, ◌<◌, ◌≤◌, Bool, true, ◌&&◌, ltb, List, ◌++◌, length, get_or, sym, refl, ap, ◌∙◌, ap₂, arith}
+use Rattle.std.proofs.Common.{◌≡◌, ℕ, ◌<◌, Bool, true, ◌&&◌, ltb, List, ◌++◌, length, get_or, refl, ap, ap₂, arith}
 use Rattle.std.proofs.lemmas.List.{get_or_append_left}
 use Rattle.std.proofs.lemmas.Bool.{and_parts, ltb-true}
 use Rattle.calculus.specs.Syntax.{Ty, base, unit_kind, Term, variable, abstraction}
 use Rattle.tables.specs.declared.entry.Entry.{Entry}
 use Rattle.tables.specs.Entries.{at, no_entry, term_tag, term_operands}
 use Rattle.tables.proofs.Ladders.{rung_same}
-use Rattle.trees.specs.Facts.{Kept, PrefixKeepsTrees}
+use Rattle.trees.specs.Facts.{PrefixKeepsTrees}
 use Rattle.trees.specs.Formed.{Formed}
 use Rattle.trees.specs.Trees.{type_by, type_step, type_of, term_by, term_step, term_of}
 use Rattle.trees.proofs.ByTag.{by_term_tag}

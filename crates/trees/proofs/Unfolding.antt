@@ -1,10 +1,10 @@
 -- The tree of an entry from the trees of those that it names.
-use Rattle.std.proofs.Common.{◌≡◌, ℕ, ◌+◌, ◌<◌, ◌≤◌, Bool, true, ◌&&◌, eqb, ltb, List, length, get_or, sym, refl, ap, ◌∙◌, ap₂, arith, lit<}
+use Rattle.std.proofs.Common.{◌≡◌, ℕ, ◌<◌, Bool, true, ◌&&◌, eqb, ltb, List, length, get_or, refl, ap, ap₂, lit<}
 use Rattle.std.proofs.lemmas.Bool.{and_parts, ltb-true}
-use Rattle.calculus.specs.Syntax.{Ty, base, function, guarded, computation, unit_kind, Term, constant, variable, abstraction, application, fix, guard, check, unit, let_in, raise, restrict}
+use Rattle.calculus.specs.Syntax.{Ty, base, function, guarded, computation, unit_kind, Term, variable, abstraction, application, fix, guard, check, unit, let_in, raise, restrict}
 use Rattle.tables.specs.declared.entry.Entry.{Entry}
-use Rattle.tables.specs.Entries.{at, type_tag, type_operands, term_tag, names}
-use Rattle.tables.specs.Ladder.{ladder, rung}
+use Rattle.tables.specs.Entries.{at, type_tag, type_operands, term_tag}
+use Rattle.tables.specs.Ladder.{ladder}
 use Rattle.tables.specs.Lower.{Lower}
 use Rattle.tables.proofs.Ladders.{get_or_ladder}
 use Rattle.tables.proofs.Rooting.{operands_lower}

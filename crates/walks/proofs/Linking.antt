@@ -1,18 +1,18 @@
 -- What a walk comes to is what is inferred, and so what the rules give.
-use Rattle.std.proofs.Common.{◌≡◌, ℕ, zero, suc, ◌+◌, ◌-◌, ◌<◌, ◌≤◌, Bool, true, false, cond, ◌&&◌, eqb, ltb, List, [], ◌∷◌, ◌++◌, length, get_or, take, drop, set, Some, None, Option, sym, refl, ap, ◌∙◌, subst, ap₂, subst₂, ⊎_elim, arith, lit<}
-use Rattle.std.proofs.lemmas.List.{get_or-take, get_or-set_same, get_or-set_other, length-set}
+use Rattle.std.proofs.Common.{◌≡◌, ℕ, zero, suc, ◌+◌, ◌-◌, ◌<◌, ◌≤◌, Bool, true, false, cond, ◌&&◌, eqb, List, [], ◌∷◌, length, get_or, take, set, Some, None, Option, sym, refl, ap, ◌∙◌, subst, ap₂, subst₂, ⊎_elim, arith, lit<}
+use Rattle.std.proofs.lemmas.List.{get_or-set_same, get_or-set_other, length-set}
 use Rattle.std.proofs.lemmas.Bool.{and_parts, and_from, le-leb, ltb-true, eqb-true, cases_eq}
 use Rattle.roles.specs.Meaning.{Meaning, Lawful}
 use Rattle.calculus.specs.Substitution.{closed}
-use Rattle.calculus.specs.Syntax.{Kind, Ty, base, function, guarded, computation, Term}
+use Rattle.calculus.specs.Syntax.{Ty, base, function, guarded, computation, Term}
 use Rattle.calculus.specs.Subtyping.{System, sufficient, necessary, well_coded}
-use Rattle.calculus.specs.Typing.{claim, permits, Has}
+use Rattle.calculus.specs.Typing.{claim, permits}
 use Rattle.calculus.specs.Inference.{is_subtype, given, on_some, on_function, on_guarded, on_computation, infer}
 use Rattle.calculus.proofs.Complete.{inference_decides_lem, inference_least_lem}
 use Rattle.calculus.proofs.Options.{none_some}
 use Rattle.tables.specs.declared.entry.Entry.{Entry}
 use Rattle.tables.specs.Entries.{at, no_entry, names, term_tag}
-use Rattle.trees.specs.Trees.{kind, type_by, type_of, term_by, term_of}
+use Rattle.trees.specs.Trees.{kind, type_of, term_by, term_of}
 use Rattle.trees.proofs.ByTag.{by_term_tag, made}
 use Rattle.trees.proofs.Closing.{bound_closed}
 use Rattle.trees.proofs.Coding.{types_coded}
@@ -23,13 +23,13 @@ use Rattle.walks.specs.declared.finding.Finding.{Finding}
 use Rattle.walks.specs.declared.finding.Finding.TheVariants.{Refused, Known, New}
 use Rattle.walks.specs.Places.{Grounded, Placed, Rooted, Walkable}
 use Rattle.walks.specs.Rules.{base_type, function_type, guarded_type, computation_type, claim_of, asked, applied, fixed, checked_as, checked, joined_as, joined, raised_as, raised, restricted_as, restricted}
-use Rattle.walks.specs.Sense.{Least, Untyped, TypedBy, Within, Decides, WalkDecides, TellsSame, WalkAgain}
-use Rattle.walks.specs.Walk.{Walked, going, stopped, Walker, and_then, settled, let_rest, walk_by, walk_of}
+use Rattle.walks.specs.Sense.{Decides, WalkDecides, TellsSame, WalkAgain}
+use Rattle.walks.specs.Walk.{Walked, going, stopped, and_then, settled, let_rest, walk_by, walk_of}
 use Rattle.walks.proofs.Goods.{Good, low_base, low_function, low_guarded, low_computation, good_applied, good_fixed, good_checked, good_joined, good_raised, good_restricted}
 use Rattle.walks.proofs.Links.{tys, AllLow, Grew, Went, Halted, Linked, Judges, same_types, grew_none, settled_links, then_links, lift_links, apply_to, fix_of, check_of, join_to, raise_by, restrict_to, by_shape, apply_judges, fix_judges, check_judges, join_judges, raise_judges, restrict_judges, depth_of, variable_judges, all_at, all_more, tys_same}
 use Rattle.walks.proofs.Onces.{once_size}
 use Rattle.walks.proofs.Placing.{types_long, at_front, ground, rooted}
-use Rattle.walks.proofs.Sums.{sum_rest, sum_of, size_of, sum_is}
+use Rattle.walks.proofs.Sums.{sum_rest, size_of, sum_is}
 use Rattle.walks.proofs.TypeTrees.{tree_same}
 use Rattle.walks.proofs.Unfolding.{tagged, walk_unfold}
 

@@ -6,7 +6,7 @@ use Rattle.tables.specs.declared.entry.Entry.{Entry}
 use Rattle.tables.specs.Entries.{at, names}
 use Rattle.tables.specs.Uses.{hits, uses}
 use Rattle.tables.proofs.Used.{uses-more}
-use Rattle.walks.specs.Places.{operand_of, Placed, Rooted}
+use Rattle.walks.specs.Places.{operand_of, Rooted}
 use Rattle.walks.proofs.Sums.{sum_rest, sum_of, size_of, sum_is}
 
 abbrev sum : (ℕ → ℕ) → ℕ → ℕ

@@ -1,5 +1,5 @@
 -- The entries of a formed job, as a walk uses them.
-use Rattle.std.proofs.Common.{◌≡◌, ℕ, zero, suc, ◌+◌, ◌-◌, ◌<◌, ◌≤◌, Bool, true, false, cond, not, ◌&&◌, ◌||◌, eqb, ltb, leb, ◌⊎◌, List, length, get_or, take, sym, refl, ap, ◌∙◌, subst, inl, inr, ⊎_elim, arith}
+use Rattle.std.proofs.Common.{◌≡◌, ℕ, ◌<◌, ◌≤◌, Bool, true, false, not, ◌&&◌, ◌||◌, eqb, ltb, leb, ◌⊎◌, List, length, take, subst, inl, inr, arith}
 use mathlib.Core.Bool.{false≢true}
 use Rattle.std.proofs.lemmas.List.{get_or-take, length-take-le}
 use Rattle.std.proofs.lemmas.Bool.{and_parts, leb-true, ltb-true, cases_eq, ne_eqb}
@@ -9,8 +9,7 @@ use Rattle.tables.specs.declared.entry.Entry.{Entry}
 use Rattle.tables.specs.Entries.{at, no_entry, names, role_tag, type_tag, type_operands, term_tag, term_operands, role_fits}
 use Rattle.tables.specs.Lower.{Lower}
 use Rattle.tables.proofs.Rooting.{operands_lower}
-use Rattle.trees.specs.Formed.{Formed}
-use Rattle.trees.proofs.ByTag.{by_type_tag, by_term_tag}
+use Rattle.trees.proofs.ByTag.{by_type_tag}
 use Rattle.walks.specs.Places.{operand_of, Low, Grounded, Placed, Rooted, Walkable}
 
 -- a type that answered with yes

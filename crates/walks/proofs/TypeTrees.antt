@@ -1,11 +1,11 @@
 -- The type of an entry goes by the types of those that it names.
-use Rattle.std.proofs.Common.{◌≡◌, ℕ, zero, suc, ◌+◌, ◌-◌, ◌<◌, ◌≤◌, Bool, ◌⊎◌, List, length, get_or, set, sym, refl, ap, ◌∙◌, ap₂, inl, inr, arith}
+use Rattle.std.proofs.Common.{◌≡◌, ℕ, ◌+◌, ◌<◌, ◌≤◌, Bool, ◌⊎◌, List, length, get_or, set, sym, ap, ◌∙◌, ap₂, inl, inr, arith}
 use Rattle.std.proofs.lemmas.List.{get_or-set_same, get_or-set_other}
 use Rattle.std.proofs.lemmas.Bool.{cases_eq}
 use Rattle.calculus.specs.Syntax.{Ty, base, function, guarded, computation, unit_kind}
 use Rattle.tables.specs.declared.entry.Entry.{Entry}
 use Rattle.tables.specs.Entries.{at, no_entry}
-use Rattle.tables.specs.Ladder.{ladder, rung}
+use Rattle.tables.specs.Ladder.{ladder}
 use Rattle.tables.proofs.Ladders.{get_or_ladder, rung_same}
 use Rattle.trees.specs.Trees.{kind, type_by, type_step, type_of}
 use Rattle.walks.specs.Places.{Low, Grounded}

@@ -1,16 +1,15 @@
 -- The walk of a term goes by the walks of those that it names.
-use Rattle.std.proofs.Common.{◌≡◌, ℕ, ◌+◌, ◌<◌, Bool, true, false, cond, ◌&&◌, eqb, leb, List, ◌∷◌, get_or, sym, refl, ap, ◌∙◌, arith, lit<}
+use Rattle.std.proofs.Common.{◌≡◌, ℕ, ◌+◌, ◌<◌, Bool, true, cond, eqb, List, ◌∷◌, get_or, refl, ap, ◌∙◌, lit<}
 use Rattle.std.proofs.lemmas.Bool.{and_from, le-leb}
 use Rattle.roles.specs.Meaning.{Meaning}
 use Rattle.calculus.specs.Subtyping.{System}
 use Rattle.tables.specs.declared.entry.Entry.{Entry}
 use Rattle.tables.specs.Entries.{at, names, term_tag}
-use Rattle.tables.specs.Ladder.{ladder, rung}
+use Rattle.tables.specs.Ladder.{ladder}
 use Rattle.tables.proofs.Ladders.{get_or_ladder}
 use Rattle.trees.proofs.ByTag.{by_term_tag}
 use Rattle.walks.specs.declared.fault.TypingFault.TheVariants.{NoComputation}
-use Rattle.walks.specs.declared.finding.Finding.TheVariants.{New}
-use Rattle.walks.specs.Rules.{function_type, guarded_type, computation_type, claim_of, applied, fixed, checked, joined, raised, restricted}
+use Rattle.walks.specs.Rules.{applied}
 use Rattle.walks.specs.Walk.{Walked, going, stopped, Walker, and_then, settled, let_rest, walk_by, walk_step, walk_of}
 use Rattle.walks.specs.Places.{operand_of, Placed, Rooted}
 

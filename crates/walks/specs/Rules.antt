@@ -1,5 +1,5 @@
 -- What is found of a term when the types of its operands are known, rule by rule. A type is meant by its number in the table. Assumes nothing.
-use Rattle.std.specs.Prelude.{ℕ, Bool, true, false, cond, List, Some, None, Option, ◌==◌}
+use Rattle.std.specs.Prelude.{ℕ, Bool, true, false, List, Some, None, Option, ◌==◌}
 use Rattle.roles.specs.Meaning.{Meaning}
 use Rattle.calculus.specs.Subtyping.{System, sufficient, necessary}
 use Rattle.calculus.specs.Typing.{permits}

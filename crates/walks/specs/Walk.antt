@@ -1,5 +1,5 @@
 -- The walk of a check: the first operand of a term, its second operand, then the term. Assumes nothing.
-use Rattle.std.specs.Prelude.{ℕ, ◌+◌, Bool, true, false, cond, List, [], ◌∷◌, Ok, Err, Result, ◌==◌, slice_index, slice_index_or, slice_set}
+use Rattle.std.specs.Prelude.{ℕ, ◌+◌, cond, List, ◌∷◌, Ok, Err, Result, ◌==◌, slice_index, slice_index_or, slice_set}
 use Rattle.roles.specs.Meaning.{Meaning}
 use Rattle.calculus.specs.Subtyping.{System}
 use Rattle.tables.specs.declared.entry.Entry.{Entry}

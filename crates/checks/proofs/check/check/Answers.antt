@@ -1,4 +1,4 @@
-use Rattle.std.proofs.Common.{◌≡◌, ℕ, take, sym, subst}
+use Rattle.std.proofs.Common.{ℕ, take, sym, subst}
 use native.Mathlib.Nat.{sub-zero}
 use Rattle.walks.specs.Places.{Walkable}
 use Rattle.walks.proofs.Accepting.{walkable}

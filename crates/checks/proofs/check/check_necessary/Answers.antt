@@ -1,9 +1,8 @@
-use Rattle.std.proofs.Common.{◌≡◌, ◌+◌, sym, ap, ◌∙◌, subst}
+use Rattle.std.proofs.Common.{◌+◌, sym, subst}
 use Rattle.calculus.specs.Subtyping.{necessary}
 use Rattle.walks.specs.Sense.{Within}
-use Rattle.checks.specs.Checking.{cleared}
-use Rattle.checks.specs.Sense.{job_term, plain, Says}
-use Rattle.checks.proofs.Meaning.{check_meant, plain_cleared}
+use Rattle.checks.specs.Sense.{job_term, Says}
+use Rattle.checks.proofs.Meaning.{check_meant}
 use Rattle.checks.proofs.check.check_necessary.Goals as goal
 
 pub returns : goal.returns

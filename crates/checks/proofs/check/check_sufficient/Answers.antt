@@ -1,4 +1,4 @@
-use Rattle.std.proofs.Common.{◌≡◌, ◌+◌, sym, ap, ◌∙◌, subst}
+use Rattle.std.proofs.Common.{◌+◌, sym, ap, ◌∙◌, subst}
 use Rattle.calculus.specs.Subtyping.{sufficient}
 use Rattle.walks.specs.Sense.{Within}
 use Rattle.checks.specs.Checking.{cleared}

@@ -1,4 +1,4 @@
-use Rattle.std.proofs.Common.{◌-◌, ◌≤◌, sym, ◌∙◌, arith}
+use Rattle.std.proofs.Common.{◌-◌, sym, ◌∙◌, arith}
 use Rattle.checks.specs.Systems.{meant}
 use Rattle.checks.proofs.Compares.{stop, pop_pend, pop_fits, pop_cost, swap_pend, swap_fits, swap_cost, inner, inner_low, inner_right, tags, pushed_pend, pushed_fits, pushed_cost}
 use Rattle.checks.proofs.compare.below.Goals as goal

@@ -1,4 +1,4 @@
-use Rattle.std.proofs.Common.{◌≡◌, sym, ap, ◌∙◌, ap₂, arith}
+use Rattle.std.proofs.Common.{◌≡◌, sym, ap, ◌∙◌, arith}
 use Rattle.walks.specs.declared.finding.Finding.TheVariants.{New}
 use Rattle.walks.specs.Rules.{computation_type, function_type}
 use Rattle.checks.specs.Systems.{meant}

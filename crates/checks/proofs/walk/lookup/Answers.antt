@@ -1,4 +1,4 @@
-use Rattle.std.proofs.Common.{◌≡◌, ◌<◌, cond, eqb, get_or, sym, ap, ◌∙◌}
+use Rattle.std.proofs.Common.{cond, eqb, get_or, sym, ap, ◌∙◌}
 use Rattle.checks.specs.Frames.{env}
 use Rattle.checks.proofs.Envs.{env_at}
 use Rattle.checks.proofs.walk.lookup.Goals as goal

@@ -1,11 +1,11 @@
-use Rattle.std.proofs.Common.{◌≡◌, ℕ, ◌+◌, ◌-◌, ◌<◌, ◌≤◌, length, get_or, set, replicate, sym, refl, ap, ◌∙◌, arith}
+use Rattle.std.proofs.Common.{◌≡◌, ℕ, ◌-◌, ◌<◌, ◌≤◌, length, replicate, sym, refl, ap, ◌∙◌, arith}
 use Rattle.walks.specs.declared.finding.Finding.TheVariants.{Refused, Known, New}
-use Rattle.walks.specs.Walk.{told, table_of, stopped, walk_of}
+use Rattle.walks.specs.Walk.{told, table_of}
 use Rattle.walks.proofs.Placing.{ground}
 use Rattle.checks.specs.Systems.{meant}
 use Rattle.checks.proofs.Depths.{root_depth}
-use Rattle.checks.proofs.Walks.{pend, pend_sum, pend_stopped}
-use Rattle.checks.proofs.Stack.{start_fits, start_sum, start_pend, placed, ready, variable_bound, finish_pend, finish_good, pop_same, pop_fresh, pop_sum, stop_pend, v_there, pushed_pend, pushed_sum, pushed_fits, room}
+use Rattle.checks.proofs.Walks.{pend_stopped}
+use Rattle.checks.proofs.Stack.{start_fits, start_sum, start_pend, placed, ready, finish_pend, finish_good, pop_same, pop_fresh, pop_sum, stop_pend, v_there, pushed_pend, pushed_sum, pushed_fits, room}
 use Rattle.checks.proofs.walk.walk.Goals as goal
 
 pub loop-top-init : goal.loop-top-init

@@ -3,7 +3,6 @@ use Rattle.std.proofs.lemmas.Bool.{cond-true}
 use Rattle.blocks.specs.Kinds.{scheme_of}
 use Rattle.dispatcher.specs.declared.report.Codes.{Codes}
 use Rattle.dispatcher.specs.declared.report.Decision.{Decision}
-use Rattle.dispatcher.specs.declared.report.Report.{Report}
 use Rattle.dispatcher.specs.Decide.{compared, codes_in}
 use Rattle.dispatcher.proofs.decide.report_after.Goals as goal
 

@@ -1,4 +1,4 @@
-use Rattle.std.proofs.Common.{◌≡◌, ◌∙◌, arith}
+use Rattle.std.proofs.Common.{◌∙◌, arith}
 use Rattle.jobs.specs.Image.{bytes32}
 use Rattle.jobs.proofs.Puts.{put_is}
 use Rattle.jobs.proofs.encode.put32.Goals as goal

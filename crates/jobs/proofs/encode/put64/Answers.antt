@@ -1,4 +1,4 @@
-use Rattle.std.proofs.Common.{◌≡◌, ◌∙◌, arith}
+use Rattle.std.proofs.Common.{◌∙◌, arith}
 use Rattle.jobs.specs.Image.{bytes64}
 use Rattle.jobs.proofs.Puts.{put_is}
 use Rattle.jobs.proofs.encode.put64.Goals as goal

@@ -1,10 +1,10 @@
-use Rattle.std.proofs.Common.{◌≡◌, ℕ, List, length, Ok, Err, sym, ap, ◌∙◌, arith}
+use Rattle.std.proofs.Common.{ℕ, List, length, Ok, Err, sym, ap, ◌∙◌, arith}
 use Rattle.roles.specs.Meaning.{Meaning}
 use Rattle.std.proofs.lemmas.Result.{err_from_is_err_and}
 use Rattle.tables.specs.declared.entry.Entry.{Entry}
 use Rattle.jobs.specs.Asking.{told, left}
 use Rattle.jobs.specs.Image.{types_told, terms_told, types_in, terms_in}
-use Rattle.jobs.specs.Reading.{counts_told, read_asked, filled}
+use Rattle.jobs.specs.Reading.{counts_told, filled}
 use Rattle.jobs.proofs.Asked.{told_value}
 use Rattle.jobs.proofs.ReadSteps.{no_outline, shape, space, no_entries, accepted, types_filled, terms_filled}
 use Rattle.jobs.proofs.reader.read.Goals as goal

@@ -1,12 +1,11 @@
-use Rattle.std.proofs.Common.{◌≡◌, ℕ, suc, ◌+◌, ◌<◌, ◌≤◌, List, ◌++◌, length, get_or, take, sym, refl, ap, ◌∙◌, subst, arith}
+use Rattle.std.proofs.Common.{◌≡◌, ℕ, ◌+◌, ◌≤◌, List, get_or, sym, refl, ◌∙◌, arith}
 use Rattle.std.proofs.lemmas.Bool.Decides.{nat_tests}
 use Rattle.tables.specs.declared.entry.Entry.{Entry}
-use Rattle.machine.specs.Plans.{Written}
 use Rattle.runs.specs.Reach.{no_entry}
-use Rattle.runs.specs.Copy.{laid, copied, Copiable, names, first_within, second_within}
+use Rattle.runs.specs.Copy.{names, first_within, second_within}
 use Rattle.runs.proofs.Laying.{still}
 use Rattle.runs.proofs.Copying.{shared}
-use Rattle.runs.proofs.Tabling.{at_base, with_still, first_low, two, second_low, first_may, first_room, one_done, second_may, second_room, two_done}
+use Rattle.runs.proofs.Tabling.{with_still, first_low, two, second_low, first_may, first_room, one_done, second_may, second_room, two_done}
 use Rattle.runs.proofs.copy.+copy_on.Goals as goal
 
 first_le : (t d : ℕ) → first_within t d ≤ d + 1

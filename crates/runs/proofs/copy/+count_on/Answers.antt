@@ -1,9 +1,9 @@
-use Rattle.std.proofs.Common.{◌≡◌, ℕ, suc, ◌+◌, ◌<◌, ◌≤◌, List, ◌++◌, length, get_or, take, sym, refl, ap, ◌∙◌, subst, arith}
+use Rattle.std.proofs.Common.{◌≡◌, ℕ, ◌+◌, ◌≤◌, List, get_or, sym, ◌∙◌, arith}
 use Rattle.std.proofs.lemmas.Bool.Decides.{nat_tests}
 use Rattle.tables.specs.declared.entry.Entry.{Entry}
 use Rattle.runs.specs.Reach.{no_entry}
-use Rattle.runs.specs.Copy.{count_of, Copiable, names, first_within, second_within}
-use Rattle.runs.proofs.Tallying.{place_low, none_shared, none_leaf, low_first, both, low_second, may_first, may_second, count_one, count_two}
+use Rattle.runs.specs.Copy.{names, first_within, second_within}
+use Rattle.runs.proofs.Tallying.{none_shared, none_leaf, low_first, both, low_second, may_first, may_second, count_one, count_two}
 use Rattle.runs.proofs.copy.+count_on.Goals as goal
 
 first_le : (t d : ℕ) → first_within t d ≤ d + 1

@@ -1,7 +1,7 @@
-use Rattle.std.proofs.Common.{◌≡◌, ℕ, suc, ◌+◌, ◌<◌, ◌≤◌, Bool, true, false, List, length, get_or, take, sym, refl, ap, ◌∙◌, subst, true≢false, arith, length-take-le, get_or-take}
+use Rattle.std.proofs.Common.{◌≡◌, ℕ, ◌<◌, ◌≤◌, false, List, length, get_or, take, sym, ap, ◌∙◌, subst, true≢false, arith, length-take-le, get_or-take}
 use mathlib.Core.Bool.{false≢true}
 use Rattle.tables.specs.declared.entry.Entry.{Entry}
-use Rattle.runs.specs.Reach.{no_entry, Ground}
+use Rattle.runs.specs.Reach.{no_entry}
 use Rattle.runs.specs.declared.find.Found.{Found}
 use Rattle.runs.specs.Find.{value_tag, met_of, is_ready, path_of, FoundFits}
 use Rattle.runs.proofs.Finding.{at_value, at_variable, first_below, at_redex, at_none, at_some, here_ready, here_short, out_ready, out_short, not-true}

@@ -1,4 +1,4 @@
-use Rattle.std.proofs.Common.{◌≡◌, ℕ, ◌<◌, ◌≢◌, List, length, get_or, take, sym, ap, ◌∙◌, subst, arith, length-take-le, get_or-set_other, get_or-take, get_or-set_same, below_more}
+use Rattle.std.proofs.Common.{◌≡◌, ℕ, ◌<◌, ◌≢◌, List, length, get_or, take, sym, ap, ◌∙◌, arith, length-take-le, get_or-set_other, get_or-take, get_or-set_same, below_more}
 use Rattle.runs.specs.Reach.{reach_of}
 use Rattle.runs.proofs.Grounding.{tree_longer}
 use Rattle.tables.specs.declared.entry.Entry.{Entry}

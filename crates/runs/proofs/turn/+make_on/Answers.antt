@@ -1,6 +1,5 @@
-use Rattle.std.proofs.Common.{◌≡◌, ℕ, suc, ◌+◌, ◌-◌, ◌<◌, ◌≤◌, List, take, sym, ap, ◌∙◌, arith}
-use Rattle.tables.specs.declared.entry.Entry.{Entry}
-use Rattle.runs.proofs.Making.{way_low, way_fits, way_room, way_done}
+use Rattle.std.proofs.Common.{◌≡◌, suc, ◌-◌, arith}
+use Rattle.runs.proofs.Making.{way_fits, way_room, way_done}
 use Rattle.runs.proofs.turn.+make_on.Goals as goal
 
 pub make_on-a-requires : goal.make_on-a-requires

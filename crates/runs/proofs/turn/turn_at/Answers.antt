@@ -1,11 +1,11 @@
-use Rattle.std.proofs.Common.{◌≡◌, ℕ, ◌+◌, ◌-◌, ◌<◌, ◌≤◌, true, false, leb, List, length, take, sym, refl, ap, ◌∙◌, arith}
+use Rattle.std.proofs.Common.{ℕ, ◌+◌, ◌-◌, List, length, take, sym, refl, ap, ◌∙◌, arith}
 use Rattle.std.proofs.lemmas.Bool.{leb-true, leb-false}
 use Rattle.tables.specs.declared.entry.Entry.{Entry}
 use Rattle.machine.specs.Plans.{Written, write}
 use Rattle.machine.specs.Turns.{moves}
 use Rattle.runs.specs.declared.find.Found.TheVariants.{Redex}
 use Rattle.runs.specs.Copy.{places}
-use Rattle.runs.specs.Find.{act_plan, along, PathFits}
+use Rattle.runs.specs.Find.{act_plan, along}
 use Rattle.runs.proofs.Turning.{turn_is, fits_redex, fits_act, length_along}
 use Rattle.runs.proofs.turn.turn_at.Goals as goal
 

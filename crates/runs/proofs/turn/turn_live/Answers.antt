@@ -1,5 +1,4 @@
-use Rattle.std.proofs.Common.{◌≡◌, ℕ, ◌+◌, ◌<◌, ◌≤◌, List, length, take, sym, refl, ap, ◌∙◌, subst, arith, rules}
-use Rattle.tables.specs.declared.entry.Entry.{Entry}
+use Rattle.std.proofs.Common.{arith}
 use Rattle.runs.proofs.Grounding.{moved_ground, moved_known, moved_more, moved_live}
 use Rattle.runs.proofs.turn.turn_live.Goals as goal
 

@@ -1,7 +1,7 @@
-use Rattle.std.proofs.Common.{◌≡◌, ℕ, ◌+◌, ◌<◌, ◌≤◌, true, false, ◌≢◌, List, length, get_or, take, sym, refl, ap, ◌∙◌, arith, length-take-le, get_or-set_other, get_or-take, get_or-set_same, below_more}
+use Rattle.std.proofs.Common.{ℕ, ◌+◌, ◌<◌, ◌≢◌, List, length, get_or, take, sym, ◌∙◌, arith, length-take-le, get_or-set_other, get_or-take, get_or-set_same, below_more}
 use mathlib.Core.Bool.{false≢true}
 use Rattle.tables.specs.declared.entry.Entry.{Entry}
-use Rattle.runs.specs.Reach.{no_entry, Ground}
+use Rattle.runs.specs.Reach.{no_entry}
 use Rattle.runs.proofs.Tags.{tagged_at, lower_at, small_at}
 use Rattle.runs.proofs.Reaching.{lower_is, step_reach}
 use Rattle.runs.proofs.Using.{Passed, ground_by, pass_on, pass_off, pass_end, next_reach, below_known}

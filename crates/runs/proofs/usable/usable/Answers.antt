@@ -1,4 +1,4 @@
-use Rattle.std.proofs.Common.{◌≡◌, true, false, sym, refl, ◌∙◌, arith}
+use Rattle.std.proofs.Common.{sym, refl, ◌∙◌, arith}
 use mathlib.Core.Bool.{false≢true}
 use Rattle.runs.proofs.Using.{not_past, by_reach, live_by}
 use Rattle.runs.proofs.usable.usable.Goals as goal

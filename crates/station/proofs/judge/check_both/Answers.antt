@@ -1,4 +1,4 @@
-use Rattle.std.proofs.Common.{◌≡◌, ℕ, List, Result, ap, ◌∙◌, ap₂}
+use Rattle.std.proofs.Common.{ℕ, List, Result, ap, ◌∙◌, ap₂}
 use Rattle.calculus.specs.Subtyping.{necessary}
 use Rattle.tables.specs.declared.entry.Entry.{Entry}
 use Rattle.checks.specs.Checking.{check_of}

@@ -1,4 +1,4 @@
-use Rattle.std.proofs.Common.{◌≡◌, sym, subst}
+use Rattle.std.proofs.Common.{sym, subst}
 use Rattle.station.specs.Sense.{ImageMeans}
 use Rattle.station.proofs.Senses.{image_means}
 use Rattle.station.proofs.judge.judge_image.Goals as goal

@@ -1,4 +1,4 @@
-use Rattle.std.proofs.Common.{◌≡◌, ap, ◌∙◌, ap₂}
+use Rattle.std.proofs.Common.{ap, ◌∙◌, ap₂}
 use Rattle.station.specs.Verdicts.{checked_both, after_reading}
 use Rattle.station.proofs.judge.read_and_check.Goals as goal
 

@@ -1,4 +1,4 @@
-use Rattle.std.proofs.Common.{◌≡◌, Ok, ◌∙◌, subst}
+use Rattle.std.proofs.Common.{◌≡◌, ◌∙◌, subst}
 use Rattle.blocks.specs.Format.{Parsed}
 use Rattle.blocks.specs.Kinds.{scheme_of}
 use Rattle.station.specs.Sense.{ImageMeans}

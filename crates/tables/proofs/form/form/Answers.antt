@@ -1,4 +1,4 @@
-use Rattle.std.proofs.Common.{ℕ, take, sym, ap, ◌∙◌, ap₂}
+use Rattle.std.proofs.Common.{ℕ, take, sym, ◌∙◌, ap₂}
 use native.Mathlib.Nat.{sub-zero}
 use Rattle.tables.specs.Form.{entries_asked}
 use Rattle.tables.proofs.Asked.{and_ok}

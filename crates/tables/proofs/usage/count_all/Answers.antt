@@ -1,6 +1,6 @@
-use Rattle.std.proofs.Common.{◌≡◌, ℕ, ◌+◌, sym, refl, ap, ◌∙◌, arith}
+use Rattle.std.proofs.Common.{◌+◌, sym, refl, ap, ◌∙◌, arith}
 use Rattle.tables.specs.Entries.{at}
-use Rattle.tables.specs.Uses.{hits, uses}
+use Rattle.tables.specs.Uses.{hits}
 use Rattle.tables.proofs.Used.{uses-few, uses-more, uses-none, uses-all}
 use Rattle.tables.proofs.usage.count_all.Goals as goal
 

@@ -1,6 +1,5 @@
-use Rattle.std.proofs.Common.{◌≡◌, Err, sym, refl, ap, ◌∙◌}
+use Rattle.std.proofs.Common.{Err, refl, ap, ◌∙◌}
 use Rattle.std.proofs.lemmas.Result.{err_from_is_err_and}
-use Rattle.runs.specs.declared.fault.RunFault.{RunFault}
 use Rattle.runs.specs.Run.{gone, refusal}
 use Rattle.runs.proofs.Joining.{in_parts}
 use Rattle.runs.proofs.Meaning.{ran, meant_err}

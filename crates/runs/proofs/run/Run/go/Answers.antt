@@ -1,4 +1,4 @@
-use Rattle.std.proofs.Common.{◌≡◌, ℕ, sym, ap, ◌∙◌, subst, arith}
+use Rattle.std.proofs.Common.{sym, subst, arith}
 use Rattle.machine.specs.declared.condition.Condition.{Condition}
 use Rattle.runs.specs.declared.run.Run.{Run}
 use Rattle.runs.specs.Went.{Went}

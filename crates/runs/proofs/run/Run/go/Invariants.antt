@@ -1,4 +1,3 @@
-use Rattle.std.proofs.Common.{length}
 use Rattle.runs.proofs.Going.{Keeps}
 use Rattle.runs.proofs.run.Run.go.Given as goal
 
