@@ -1,5 +1,5 @@
 #!/usr/bin/env python3
-"""Counts the instructions of runs, by the program pace. Needs valgrind, and crates/pace/out/pace (rt run there).
+"""Counts the instructions of runs, by the program pace. Needs valgrind, and crates/pace/out/pace (rt run < stdin in crates/pace).
 
 usage: bench/runs.py [PROGRAM]
 """

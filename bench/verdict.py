@@ -1,5 +1,5 @@
 #!/usr/bin/env python3
-"""Counts the instructions of the verdict program on the largest images. Needs valgrind, and crates/verdict/out/verdict (rt run there).
+"""Counts the instructions of the verdict program on the largest images. Needs valgrind, and crates/verdict/out/verdict (rt run < stdin in crates/verdict).
 
 usage: bench/verdict.py [PROGRAM]
 """

@@ -1,9 +1,10 @@
 #!/usr/bin/env python3
 """Brings the repository's own names to the spelling of today's Rattle: words in snake case, types and facts in camel case.
+It was run once, when the repository came to that Rattle (docs/PORT.md), after the kit's port.py, and is kept so that this can be followed.
 
 usage: python3 tools/respell.py [--list]     at the top of a repository that port.py has turned; --list only prints the renamings
 
-A name is ours if a file of specs/ or proofs/ declares it: a definition, a lemma, a constructor, a record or a field of one. The names of goals and of invariants,
+A name is ours if a file of specs/ or proofs/ declares it: a definition, a lemma, a constructor, a record or a field of one, or another name for an import. The names of goals and of invariants,
 which Rattle makes, stay, and so do names that std has too. Functions of src/, strings, inputs and outputs stay as they are.
 Contracts, specs, proofs, must-fail edits and the names between backticks in the pages are turned alike.
 """
@@ -40,6 +41,8 @@ def declared():
     ours, defined, goals = set(), set(), set()
     for path in files("antt"):
         for line in read(path).splitlines():
+            if line.startswith(("use ", "pub use ")):
+                ours |= set(re.findall(r" as ([^\s,;}]+)", line))
             if line.lstrip().startswith(("--", "let ", "λ", "use ", "∙", "pub use")):
                 continue
             m = DECLARED.match(line)

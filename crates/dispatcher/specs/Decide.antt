@@ -1,12 +1,12 @@
 -- The dispatcher's decision, from the bytes that it is given. Assumes nothing.
 use Rattle.std.specs.Prelude.{ℕ, cond, not, List, length, Some, None, Ok, Err, Result, ◌==◌, nat_lt}
 use Rattle.roles.specs.Meaning.{Meaning}
-use Rattle.roles.specs.Refusal.{number_of as scheme-number, place_of as scheme-place}
+use Rattle.roles.specs.Refusal.{number_of as scheme_number, place_of as scheme_place}
 use Rattle.roles.specs.declared.scheme.SchemeFault.TheVariants.{Unsound}
 use Rattle.codes.specs.Bytes.{little_endian}
 use Rattle.blocks.specs.Kinds.{scheme_of}
 use Rattle.blocks.specs.Format.{Parsed, block_of}
-use Rattle.blocks.specs.Format.{number_of as block-number, place_of as block-place}
+use Rattle.blocks.specs.Format.{number_of as block_number, place_of as block_place}
 use Rattle.blocks.specs.declared.block.BlockFault.{BlockFault}
 use Rattle.dispatcher.specs.declared.report.Codes.{Codes}
 use Rattle.dispatcher.specs.declared.report.Refusal.{Refusal}
@@ -17,8 +17,8 @@ use Rattle.dispatcher.specs.declared.report.Report.{Report}
 
 -- the number of a refusal
 abbrev pub number_of : Refusal → ℕ
-number_of (Block fault) = block-number fault
-number_of (Scheme fault) = scheme-number fault
+number_of (Block fault) = block_number fault
+number_of (Scheme fault) = scheme_number fault
 number_of TooShort = 3
 number_of TooLong = 5
 number_of BoundNoRole = 9
@@ -26,8 +26,8 @@ number_of DutyNoRole = 30
 
 -- the place of a refusal: no entry is meant
 abbrev pub place_of : Refusal → ℕ
-place_of (Block fault) = block-place fault
-place_of (Scheme fault) = scheme-place fault
+place_of (Block fault) = block_place fault
+place_of (Scheme fault) = scheme_place fault
 place_of TooShort = 0
 place_of TooLong = 0
 place_of BoundNoRole = 0

@@ -1,7 +1,7 @@
 -- Three tempting errors, each with a term on the ladder of top 3 that shows it to be one. Assumes nothing.
 use Rattle.std.specs.Prelude.{◌≡◌, ℕ, ◌-◌, min, true, []}
 use Rattle.roles.specs.Meaning.{Meaning, Lawful}
-use Rattle.roles.specs.Frame.{guarded as meaning-of}
+use Rattle.roles.specs.Frame.{guarded as meaning_of}
 use Rattle.ladders.specs.Kind.{ladder_frame}
 use Rattle.calculus.specs.Syntax.{Kind, Ty, base, function, guarded, computation, Term, variable, abstraction, application, guard, check, unit, let_in, raise}
 use Rattle.calculus.specs.Substitution.{substitute}
@@ -14,7 +14,7 @@ use Rattle.readings.specs.Bounds.{ladder_3, unit_type, unit_constant, checked}
 abbrev pub ladder_by_complement : Meaning
 ladder_by_complement =
     let f = ladder_frame 3 in
-    meaning-of (record { sound = f.sound; width = f.width; bottom = f.bottom; role = f.role; above = f.above; join = f.join; meet = f.meet; remainder = λ b a. min b (3 - a) })
+    meaning_of (record { sound = f.sound; width = f.width; bottom = f.bottom; role = f.role; above = f.above; join = f.join; meet = f.meet; remainder = λ b a. min b (3 - a) })
 
 -- First: with that remainder raise 1. check {3}[unit] is typed at 2, and under role 2 it is a role fault. So it breaks the laws.
 pub record ComplementFails : Type 0 where

@@ -188,7 +188,7 @@ impl Run {
         budget
     }
 
-    /// Makes at most `budget` steps, as many as are possible in the table. The same is left if the budget is spent in parts.
+    /// Makes at most `budget` steps, as many as are possible in the table. The same is left if the budget is spent in two parts, but that a second part of 0 tells no full table.
     pub fn advance<S: Scheme>(
         &mut self,
         scheme: &S,
