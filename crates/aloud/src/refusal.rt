@@ -1,6 +1,7 @@
 //! Refusals in words.
 use blocks::block::BlockFault;
 use jobs::fault::ImageFault;
+use roles::fault::Fault;
 use std::fmt;
 use tables::fault::FormFault;
 

@@ -8,21 +8,20 @@ use hierarchies::Hierarchy;
 use ladders::Ladder;
 use masks::Mask;
 use pairs::Pair;
+use roles::fault::Fault;
 
-impl BlockFault {
-    /// The number of the refusal.
-    pub fn number(self) -> u8
-        ensures { result ≡ number_of self }
-    {
+impl Fault for BlockFault {
+    ghost number_of = { number_of };
+
+    ghost place_of = { place_of };
+
+    fn number(&self) -> u8 {
         match self {
             BlockFault::NotWhole | BlockFault::UnknownKind(_) => 1,
         }
     }
 
-    /// The place of the refusal: no entry is meant.
-    pub fn place(self) -> u16
-        ensures { result ≡ place_of self }
-    {
+    fn place(&self) -> u32 {
         match self {
             BlockFault::NotWhole | BlockFault::UnknownKind(_) => 0,
         }

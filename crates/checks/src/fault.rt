@@ -3,6 +3,7 @@ ghost use Rattle.std.specs.Prelude.{◌≡◌};
 ghost use Rattle.checks.specs.Faults.{number_of, place_of};
 ghost use Rattle.checks.specs.declared.fault.CheckFault.TheVariants.{Form, Typing};
 
+use roles::fault::Fault;
 use tables::fault::FormFault;
 use walks::fault::TypingFault;
 
@@ -15,21 +16,19 @@ pub enum CheckFault {
     Typing(TypingFault),
 }
 
-impl CheckFault {
-    /// The number of the question.
-    pub fn number(&self) -> u8
-        ensures { result ≡ number_of self.now }
-    {
+impl Fault for CheckFault {
+    ghost number_of = { number_of };
+
+    ghost place_of = { place_of };
+
+    fn number(&self) -> u8 {
         match self {
             CheckFault::Form(fault) => fault.number(),
             CheckFault::Typing(fault) => fault.number(),
         }
     }
 
-    /// The place of the entry that is meant, or 0.
-    pub fn place(&self) -> u32
-        ensures { result ≡ place_of self.now }
-    {
+    fn place(&self) -> u32 {
         match self {
             CheckFault::Form(fault) => fault.place(),
             CheckFault::Typing(fault) => fault.place(),

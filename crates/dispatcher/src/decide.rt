@@ -5,14 +5,16 @@ use crate::report::{Codes, Decision, Refusal, Report};
 use blocks::block::Block;
 use blocks::read::read_block;
 use codes::bytes::read_code;
+use roles::fault::Fault;
 use roles::refusal::ask_sound;
 use roles::scheme::Scheme;
 
-impl Refusal {
-    /// The number of the refusal.
-    pub fn number(self) -> u8
-        ensures { result ≡ number_of self }
-    {
+impl Fault for Refusal {
+    ghost number_of = { number_of };
+
+    ghost place_of = { place_of };
+
+    fn number(&self) -> u8 {
         match self {
             Refusal::Block(fault) => fault.number(),
             Refusal::Scheme(fault) => fault.number(),
@@ -23,10 +25,7 @@ impl Refusal {
         }
     }
 
-    /// The place of the refusal: no entry is meant.
-    pub fn place(self) -> u16
-        ensures { result ≡ place_of self }
-    {
+    fn place(&self) -> u32 {
         match self {
             Refusal::Block(fault) => fault.place(),
             Refusal::Scheme(fault) => fault.place(),

@@ -3,6 +3,7 @@ use jobs::fault::ImageFault;
 use jobs::reader::read;
 use jobs::writer::write;
 use masks::Mask;
+use roles::fault::Fault;
 use std::alloc::{AllocError, Global};
 use tables::entry::{Counts, Entry};
 

@@ -3,6 +3,7 @@ ghost use Rattle.std.specs.Prelude.{◌≡◌};
 ghost use Rattle.jobs.specs.Faults.{number_of, place_of};
 ghost use Rattle.jobs.specs.declared.fault.ImageFault.TheVariants.{Form};
 
+use roles::fault::Fault;
 use tables::fault::FormFault;
 
 /// The first question about an image that was answered with no.
@@ -18,11 +19,12 @@ pub enum ImageFault {
     Output { length: usize },
 }
 
-impl ImageFault {
-    /// The number of the question.
-    pub fn number(&self) -> u8
-        ensures { result ≡ number_of self.now }
-    {
+impl Fault for ImageFault {
+    ghost number_of = { number_of };
+
+    ghost place_of = { place_of };
+
+    fn number(&self) -> u8 {
         match self {
             ImageFault::Form(fault) => fault.number(),
             ImageFault::Short { .. } => 3,
@@ -31,10 +33,7 @@ impl ImageFault {
         }
     }
 
-    /// The place of the entry that is meant, or 0.
-    pub fn place(&self) -> u32
-        ensures { result ≡ place_of self.now }
-    {
+    fn place(&self) -> u32 {
         match self {
             ImageFault::Form(fault) => fault.place(),
             ImageFault::Short { .. } => 0,

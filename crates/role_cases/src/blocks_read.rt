@@ -1,6 +1,7 @@
 //! Blocks, whole and not.
 use blocks::block::Block;
 use blocks::read::read_block;
+use roles::fault::Fault;
 use roles::scheme::Scheme;
 use std::test::Fail;
 

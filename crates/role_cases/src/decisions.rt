@@ -1,6 +1,7 @@
 //! The dispatcher's decisions and their wording.
 use dispatcher::decide::report;
 use dispatcher::report::Decision;
+use roles::fault::Fault;
 use std::test::Fail;
 use wording::Spoken;
 

@@ -2,5 +2,6 @@
 //! A kind of scheme implements `Scheme` in a crate of its own; what stands above is proved once, from the laws.
 #![tactic(auto)]
 
+pub mod fault;
 pub mod refusal;
 pub mod scheme;

@@ -1,22 +1,21 @@
 ghost use Rattle.std.specs.Prelude.{◌≡◌, is_ok};
 ghost use Rattle.roles.specs.Refusal.{number_of, place_of};
 
+use crate::fault::Fault;
 use crate::scheme::{Scheme, SchemeFault};
 
-impl SchemeFault {
-    /// The number of the refusal.
-    pub fn number(self) -> u8
-        ensures { result ≡ number_of self }
-    {
+impl Fault for SchemeFault {
+    ghost number_of = { number_of };
+
+    ghost place_of = { place_of };
+
+    fn number(&self) -> u8 {
         match self {
             SchemeFault::Unsound => 2,
         }
     }
 
-    /// The place of the refusal: no entry is meant.
-    pub fn place(self) -> u16
-        ensures { result ≡ place_of self }
-    {
+    fn place(&self) -> u32 {
         match self {
             SchemeFault::Unsound => 0,
         }

@@ -1,5 +1,6 @@
 //! Jobs laid out for the cases, and what is told of their runs.
 use masks::Mask;
+use roles::fault::Fault;
 use runs::fault::StartFault;
 use runs::run::{Run, rehearse};
 use tables::entry::{Counts, Entry};

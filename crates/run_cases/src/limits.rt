@@ -1,5 +1,6 @@
 //! Tables that, written out, are larger than any table.
 use crate::bench::{MASK, NO_ENTRY, e, start};
+use roles::fault::Fault;
 use tables::entry::Entry;
 
 // A job of 1,024 terms: units around a unit.

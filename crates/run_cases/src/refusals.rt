@@ -1,6 +1,7 @@
 //! What starts and advances refuse.
 use crate::bench::{MASK, NO_ENTRY, e, play, start};
 use masks::Mask;
+use roles::fault::Fault;
 
 // Four advances of one run: under an unsound scheme, one whose roles are fewer, past the limit of steps, and after the end.
 fn refused() -> [u8; 5] {

@@ -13,6 +13,7 @@ use checks::clearance::Clearance;
 use checks::fault::CheckFault;
 use jobs::reader::read;
 use machine::condition::Condition;
+use roles::fault::Fault;
 use roles::scheme::Scheme;
 use runs::run::{Look, Run, rehearse};
 use std::fmt;

@@ -5,6 +5,7 @@ ghost use Rattle.runs.specs.declared.fault.RunFault.TheVariants.{Scheme};
 ghost use Rattle.runs.specs.declared.fault.StartFault.TheVariants.{Form};
 
 use machine::condition::Condition;
+use roles::fault::Fault;
 use roles::scheme::SchemeFault;
 use tables::fault::FormFault;
 
@@ -32,21 +33,19 @@ pub enum RunFault {
     Budget { steps: u32, budget: u64 },
 }
 
-impl StartFault {
-    /// The number of the question.
-    pub fn number(&self) -> u8
-        ensures { result ≡ start_number self.now }
-    {
+impl Fault for StartFault {
+    ghost number_of = { start_number };
+
+    ghost place_of = { start_place };
+
+    fn number(&self) -> u8 {
         match self {
             StartFault::Form(fault) => fault.number(),
             StartFault::Role { .. } => 30,
         }
     }
 
-    /// The place of the entry that is meant, or 0.
-    pub fn place(&self) -> u32
-        ensures { result ≡ start_place self.now }
-    {
+    fn place(&self) -> u32 {
         match self {
             StartFault::Form(fault) => fault.place(),
             StartFault::Role { .. } => 0,
@@ -54,11 +53,12 @@ impl StartFault {
     }
 }
 
-impl RunFault {
-    /// The number of the question.
-    pub fn number(&self) -> u8
-        ensures { result ≡ number_of self.now }
-    {
+impl Fault for RunFault {
+    ghost number_of = { number_of };
+
+    ghost place_of = { place_of };
+
+    fn number(&self) -> u8 {
         match self {
             RunFault::Scheme(fault) => fault.number(),
             RunFault::Role { .. } => 30,
@@ -68,12 +68,9 @@ impl RunFault {
         }
     }
 
-    /// The place: no entry is meant.
-    pub fn place(&self) -> u32
-        ensures { result ≡ place_of self.now }
-    {
+    fn place(&self) -> u32 {
         match self {
-            RunFault::Scheme(fault) => fault.place() as u32,
+            RunFault::Scheme(fault) => fault.place(),
             _ => 0,
         }
     }

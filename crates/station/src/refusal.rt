@@ -5,6 +5,7 @@ ghost use Rattle.station.specs.Refusals.{number_of, place_of};
 use blocks::block::BlockFault;
 use checks::fault::CheckFault;
 use jobs::fault::ImageFault;
+use roles::fault::Fault;
 
 /// The first question that was answered with no, as the layer below told it.
 #[derive(Clone, Copy, PartialEq, Eq, Debug)]
@@ -17,11 +18,12 @@ pub enum Refusal {
     Check(CheckFault),
 }
 
-impl Refusal {
-    /// The number of the question.
-    pub fn number(&self) -> u8
-        ensures { result ≡ number_of self.now }
-    {
+impl Fault for Refusal {
+    ghost number_of = { number_of };
+
+    ghost place_of = { place_of };
+
+    fn number(&self) -> u8 {
         match self {
             Refusal::Block(fault) => fault.number(),
             Refusal::Image(fault) => fault.number(),
@@ -29,12 +31,9 @@ impl Refusal {
         }
     }
 
-    /// The place of the entry that is meant, or 0.
-    pub fn place(&self) -> u32
-        ensures { result ≡ place_of self.now }
-    {
+    fn place(&self) -> u32 {
         match self {
-            Refusal::Block(fault) => fault.place() as u32,
+            Refusal::Block(fault) => fault.place(),
             Refusal::Image(fault) => fault.place(),
             Refusal::Check(fault) => fault.place(),
         }

@@ -4,6 +4,7 @@ ghost use Rattle.jobs.specs.Image as image;
 ghost use Rattle.station.specs.Verdicts.{bound_told, number_told, place_told, verdict_bytes};
 
 use crate::refusal::Refusal;
+use roles::fault::Fault;
 
 /// The answers of both checks: a bound each, or why there is none.
 #[derive(Clone, Copy)]

@@ -3,6 +3,7 @@ ghost use Rattle.std.specs.Prelude.{◌≡◌};
 ghost use Rattle.tables.specs.Faults.{number_of, place_of};
 ghost use Rattle.tables.specs.declared.fault.FormFault.TheVariants.{Scheme};
 
+use roles::fault::Fault;
 use roles::scheme::SchemeFault;
 
 /// The first question of form that was answered with no. A place counts from 0 through the types, then the terms.
@@ -28,11 +29,12 @@ pub enum FormFault {
     Unbound { place: u32 },
 }
 
-impl FormFault {
-    /// The number of the question.
-    pub fn number(&self) -> u8
-        ensures { result ≡ number_of self.now }
-    {
+impl Fault for FormFault {
+    ghost number_of = { number_of };
+
+    ghost place_of = { place_of };
+
+    fn number(&self) -> u8 {
         match self {
             FormFault::Scheme(fault) => fault.number(),
             FormFault::Counts { .. } => 4,
@@ -46,12 +48,9 @@ impl FormFault {
         }
     }
 
-    /// The place of the entry that is meant, or 0.
-    pub fn place(&self) -> u32
-        ensures { result ≡ place_of self.now }
-    {
+    fn place(&self) -> u32 {
         match *self {
-            FormFault::Scheme(fault) => fault.place() as u32,
+            FormFault::Scheme(fault) => fault.place(),
             FormFault::Counts { .. } => 0,
             FormFault::Room { .. } => 0,
             FormFault::Tag { place, .. } => place,

@@ -2,6 +2,7 @@
 #![tactic(auto)]
 
 use blocks::read::read_block;
+use roles::fault::Fault;
 use station::judge::verdict;
 use station::refusal::Refusal;
 use std::fmt;

@@ -2,6 +2,8 @@
 ghost use Rattle.std.specs.Prelude.{◌≡◌};
 ghost use Rattle.walks.specs.Faults.{number_of, place_of};
 
+use roles::fault::Fault;
+
 /// The first question of typing that was answered with no. The place is that of the term that asks, counted through the types, then the terms.
 #[derive(Clone, Copy, PartialEq, Eq, Debug)]
 pub enum TypingFault {
@@ -19,11 +21,12 @@ pub enum TypingFault {
     Restriction { place: u32 },
 }
 
-impl TypingFault {
-    /// The number of the question.
-    pub fn number(&self) -> u8
-        ensures { result ≡ number_of self.now }
-    {
+impl Fault for TypingFault {
+    ghost number_of = { number_of };
+
+    ghost place_of = { place_of };
+
+    fn number(&self) -> u8 {
         match self {
             TypingFault::NoFunction { .. } => 20,
             TypingFault::Argument { .. } => 21,
@@ -34,10 +37,7 @@ impl TypingFault {
         }
     }
 
-    /// The place of the term that asks.
-    pub fn place(&self) -> u32
-        ensures { result ≡ place_of self.now }
-    {
+    fn place(&self) -> u32 {
         match *self {
             TypingFault::NoFunction { place } => place,
             TypingFault::Argument { place } => place,

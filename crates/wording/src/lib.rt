@@ -4,6 +4,7 @@
 use blocks::block::{Block, BlockFault};
 use codes::bits::holds;
 use dispatcher::report::{Decision, Refusal, Report};
+use roles::fault::Fault;
 use roles::scheme::{Scheme, SchemeFault};
 use std::fmt;
 
