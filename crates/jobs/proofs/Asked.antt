@@ -1,38 +1,26 @@
--- What an answer says of the questions that it answers.
+-- What an answer about an image says of the questions that it answers.
 use Rattle.std.proofs.Common.{◌≡◌, Bool, true, false, Ok, Err, sym, refl, ap}
 use Rattle.tables.specs.declared.fault.FormFault.{FormFault}
 use Rattle.tables.specs.Asking as form
-use Rattle.jobs.specs.declared.fault.ImageFault.{ImageFault}
+use Rattle.tables.specs.Asking.{Asked, asks, told}
 use Rattle.jobs.specs.declared.fault.ImageFault.TheVariants.{Form}
-use Rattle.jobs.specs.Asking.{Answer, asks, and_then, formed, told}
+use Rattle.jobs.specs.Asking.{formed}
 
-pub and_first : (a b : Answer) → and_then a b ≡ Ok tt → a ≡ Ok tt
-and_first (Ok u) b h = refl
-and_first (Err f) b h = h
-
-pub and_second : (a b : Answer) → and_then a b ≡ Ok tt → b ≡ Ok tt
-and_second (Ok u) b h = h
-and_second (Err f) b h = cc
-
-pub asks_yes : (b : Bool) (f : ImageFault) → asks b f ≡ Ok tt → b ≡ true
-asks_yes true f h = refl
-asks_yes false f h = cc
-
-pub form_yes : (b : Bool) (f : FormFault) → formed (form.asks b f) ≡ Ok tt → b ≡ true
+pub form_yes : (b : Bool) (f : FormFault) → formed (asks b f) ≡ Ok tt → b ≡ true
 form_yes true f h = refl
 form_yes false f h = cc
 
 -- a call that returned a value had a yes to all, and the value is the one told
-pub told_yes : {X : Type 0} (a : Answer) (x y : X) → Ok y ≡ told a x → a ≡ Ok tt
+pub told_yes : {F X : Type 0} (a : Asked F) (x y : X) → Ok y ≡ told a x → a ≡ Ok tt
 told_yes (Ok u) x y h = refl
 told_yes (Err f) x y h = cc
 
-pub told_value : {X : Type 0} (a : Answer) (x y : X) → Ok y ≡ told a x → y ≡ x
+pub told_value : {F X : Type 0} (a : Asked F) (x y : X) → Ok y ≡ told a x → y ≡ x
 told_value (Ok u) x y h = cc
 told_value (Err f) x y h = cc
 
 -- a call that returned a fault tells the fault of the answer
-pub told_no : {X : Type 0} (a : Answer) (x : X) (f : ImageFault) → Err f ≡ told a x → a ≡ Err f
+pub told_no : {F X : Type 0} (a : Asked F) (x : X) (f : F) → Err f ≡ told a x → a ≡ Err f
 told_no (Ok u) x f h = cc
 told_no (Err e) x f h = cc
 

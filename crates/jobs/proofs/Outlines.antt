@@ -5,13 +5,14 @@ use Rattle.roles.specs.declared.scheme.SchemeFault.TheVariants.{Unsound}
 use Rattle.std.proofs.lemmas.Bool.{and_parts, and_from, le-leb, leb-true, eqb-true}
 use Rattle.tables.specs.declared.entry.Entry.{Entry}
 use Rattle.tables.specs.declared.fault.FormFault.TheVariants.{Scheme, Counts, Room}
-use Rattle.tables.specs.Asking as form
+use Rattle.tables.specs.Asking.{asks, and_then}
 use Rattle.tables.specs.Form.{sound_asked, counts_asked, room_asked, entries_asked, form}
 use Rattle.jobs.specs.declared.fault.ImageFault.TheVariants.{Length}
-use Rattle.jobs.specs.Asking.{and_then, formed}
+use Rattle.jobs.specs.Asking.{formed}
 use Rattle.jobs.specs.Image.{image_length}
 use Rattle.jobs.specs.Reading.{Outlined, short_asked, length_asked, outline_asked}
-use Rattle.jobs.proofs.Asked.{and_first, and_second, asks_yes, form_yes}
+use Rattle.tables.proofs.Asked.{and_first, and_second, asks_yes}
+use Rattle.jobs.proofs.Asked.{form_yes}
 
 pub record Roomy (t n a b : ℕ) : Type 0 where
   pub types : t + n ≤ a
@@ -50,9 +51,9 @@ module _ (m : Meaning) (bs : List ℕ) (t n a b : ℕ) (h : outline_asked m bs t
 -- in tables that are large enough the form of a job is that of its entries
 pub form_is : (m : Meaning) (bs : List ℕ) (t n : ℕ) (T M : List Entry) → Outlined m bs t n → length T ≡ 1536 → length M ≡ 1024 → form m t n T M ≡ entries_asked m.role (take t T) (take n M)
 form_is m bs t n T M o p q =
-    let s : sound_asked m ≡ Ok tt = ap (λ x. form.asks x (Scheme Unsound)) o.sound in
-    let c : counts_asked t n ≡ Ok tt = ap (λ x. form.asks x (Counts t n)) (and_from _ _ (and_from _ _ (le-leb t 512 o.types_few) (le-leb 1 n o.terms_some)) (le-leb n 1024 o.terms_few)) in
-    let r : room_asked t n (length T) (length M) ≡ Ok tt = ap (λ x. form.asks x (Room (length T) (length M))) (and_from _ _ (and_from _ _ (and_from _ _ (le-leb (t + n) (length T) (omega (arith, o.types_few, o.terms_few))) (le-leb n (length M) (omega (arith, o.terms_few)))) (le-leb (length T) 16384 (omega arith))) (le-leb (length M) 16384 (omega arith))) in
-    ap (λ x. form.and_then x (form.and_then (counts_asked t n) (form.and_then (room_asked t n (length T) (length M)) (entries_asked m.role (take t T) (take n M))))) s
-    ∙ (ap (λ x. form.and_then x (form.and_then (room_asked t n (length T) (length M)) (entries_asked m.role (take t T) (take n M)))) c
-    ∙ ap (λ x. form.and_then x (entries_asked m.role (take t T) (take n M))) r)
+    let s : sound_asked m ≡ Ok tt = ap (λ x. asks x (Scheme Unsound)) o.sound in
+    let c : counts_asked t n ≡ Ok tt = ap (λ x. asks x (Counts t n)) (and_from _ _ (and_from _ _ (le-leb t 512 o.types_few) (le-leb 1 n o.terms_some)) (le-leb n 1024 o.terms_few)) in
+    let r : room_asked t n (length T) (length M) ≡ Ok tt = ap (λ x. asks x (Room (length T) (length M))) (and_from _ _ (and_from _ _ (and_from _ _ (le-leb (t + n) (length T) (omega (arith, o.types_few, o.terms_few))) (le-leb n (length M) (omega (arith, o.terms_few)))) (le-leb (length T) 16384 (omega arith))) (le-leb (length M) 16384 (omega arith))) in
+    ap (λ x. and_then x (and_then (counts_asked t n) (and_then (room_asked t n (length T) (length M)) (entries_asked m.role (take t T) (take n M))))) s
+    ∙ (ap (λ x. and_then x (and_then (room_asked t n (length T) (length M)) (entries_asked m.role (take t T) (take n M)))) c
+    ∙ ap (λ x. and_then x (entries_asked m.role (take t T) (take n M))) r)

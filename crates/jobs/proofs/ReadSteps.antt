@@ -8,7 +8,8 @@ use Rattle.tables.specs.declared.fault.FormFault.{FormFault}
 use Rattle.tables.specs.Form.{entries_asked}
 use Rattle.jobs.specs.declared.fault.ImageFault.{ImageFault}
 use Rattle.jobs.specs.declared.fault.ImageFault.TheVariants.{Form}
-use Rattle.jobs.specs.Asking.{Answer, and_then, formed, told}
+use Rattle.tables.specs.Asking.{and_then, told}
+use Rattle.jobs.specs.Asking.{Answer, formed}
 use Rattle.jobs.specs.Image.{types_told, terms_told, types_in, terms_in}
 use Rattle.jobs.specs.Reading.{Outlined, counts_told, outline_asked, read_asked, filled}
 use Rattle.jobs.proofs.Asked.{told_yes, told_value, told_no, formed_no, formed_yes}

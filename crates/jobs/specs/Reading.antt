@@ -3,10 +3,11 @@ use Rattle.std.specs.Prelude.{◌≡◌, ℕ, ◌≤◌, true, List, ◌++◌, l
 use Rattle.roles.specs.Meaning.{Meaning}
 use Rattle.tables.specs.declared.entry.Entry.{Entry}
 use Rattle.tables.specs.declared.entry.Counts.{Counts}
+use Rattle.tables.specs.Asking.{asks, and_then, told}
 use Rattle.tables.specs.Form.{sound_asked, counts_asked, room_asked, entries_asked}
 use Rattle.jobs.specs.declared.fault.ImageFault.{ImageFault}
 use Rattle.jobs.specs.declared.fault.ImageFault.TheVariants.{Short, Length}
-use Rattle.jobs.specs.Asking.{Answer, asks, and_then, formed, told, left}
+use Rattle.jobs.specs.Asking.{Answer, formed, left}
 use Rattle.jobs.specs.Image.{types_told, terms_told, image_length, types_in, terms_in}
 
 -- The counts that an image tells.

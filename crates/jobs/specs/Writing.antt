@@ -2,9 +2,10 @@
 use Rattle.std.specs.Prelude.{ℕ, List, length, take, ◌==◌}
 use Rattle.roles.specs.Meaning.{Meaning}
 use Rattle.tables.specs.declared.entry.Entry.{Entry}
+use Rattle.tables.specs.Asking.{asks, and_then}
 use Rattle.tables.specs.Form.{form}
 use Rattle.jobs.specs.declared.fault.ImageFault.TheVariants.{Output}
-use Rattle.jobs.specs.Asking.{Answer, asks, and_then, formed, left}
+use Rattle.jobs.specs.Asking.{Answer, formed, left}
 use Rattle.jobs.specs.Image.{image_length, image}
 
 -- Has an output of k bytes just the length of the image of t types and n terms?

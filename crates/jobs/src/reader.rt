@@ -1,8 +1,8 @@
 //! A job read from its image into two lent tables.
 ghost use Rattle.std.specs.Prelude.{◌≡◌, ◌≤◌, length};
-ghost use Rattle.jobs.specs.Asking.{asks, told};
 ghost use Rattle.jobs.specs.Image.{image_length, terms_in, terms_told, types_in, types_told};
 ghost use Rattle.jobs.specs.Reading.{Outlined, counts_told, outline_asked, read_told, short_asked, terms_left, types_left};
+ghost use Rattle.tables.specs.Asking.{told};
 ghost use Rattle.tables.specs.Form.{entries_asked};
 
 use crate::decode::{decode, number16};
@@ -11,20 +11,7 @@ use roles::scheme::Scheme;
 use tables::entry::{Counts, Entry};
 use tables::fault::FormFault;
 use tables::form::{few, form, room, sound};
-
-const NO_ENTRY: Entry = Entry {
-    tag: 0,
-    first: 0,
-    second: 0,
-    third: 0,
-};
-
-/// One question: a no tells the fault.
-pub(crate) fn ask(yes: bool, fault: ImageFault) -> Result<(), ImageFault>
-    ensures { result ≡ asks yes fault }
-{
-    if yes { Ok(()) } else { Err(fault) }
-}
+use tables::operand::ask;
 
 /// How many bytes the image of so many entries has.
 pub fn image_length(counts: Counts) -> usize
@@ -71,8 +58,8 @@ fn examine<S: Scheme>(scheme: &S, image: &[u8], counts: Counts) -> Result<(), Fo
     requires { Outlined (S.meaning scheme.now) image.now counts.types counts.terms }
     ensures { result ≡ entries_asked (S.meaning scheme.now).role (types_in image.now counts.types counts.terms) (terms_in image.now counts.types counts.terms) }
 {
-    let mut types = [NO_ENTRY; 1536];
-    let mut terms = [NO_ENTRY; 1024];
+    let mut types = [Entry::default(); 1536];
+    let mut terms = [Entry::default(); 1024];
     decode(image, counts, &mut types, &mut terms);
     form(scheme, counts, &types, &terms)
 }

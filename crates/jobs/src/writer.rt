@@ -4,10 +4,11 @@ ghost use Rattle.jobs.specs.Writing.{out_left, write_asked};
 
 use crate::encode::encode;
 use crate::fault::ImageFault;
-use crate::reader::{ask, image_length};
+use crate::reader::image_length;
 use roles::scheme::Scheme;
 use tables::entry::{Counts, Entry};
 use tables::form::form;
+use tables::operand::ask;
 
 /// Writes the image of a job into an output of just its length.
 /// A refusal leaves the output as it was; its fault is the first question answered with no.

@@ -6,20 +6,19 @@ use Rattle.std.proofs.lemmas.List.{take_at, length-append, length-drop, length-t
 use Rattle.std.proofs.lemmas.Bool.{and_parts, leb-true, le-leb, eqb-true, eq-eqb}
 use Rattle.tables.specs.declared.entry.Entry.{Entry}
 use Rattle.tables.specs.declared.fault.FormFault.TheVariants.{Counts as Counted, Room}
-use Rattle.tables.specs.Asking as form
+use Rattle.tables.specs.Asking.{Answer, asks, and_then, told}
 use Rattle.tables.specs.Form.{sound_asked, counts_asked, room_asked, entries_asked, form}
-use Rattle.tables.proofs.Asked as facts
+use Rattle.tables.proofs.Asked.{and_first, and_second, asks_yes}
 use Rattle.jobs.specs.declared.fault.ImageFault.TheVariants.{Short, Length, Output}
-use Rattle.jobs.specs.Asking.{asks, and_then, formed, told, left}
+use Rattle.jobs.specs.Asking.{formed, left}
 use Rattle.jobs.specs.Image.{types_told, terms_told, image_length, types_in, terms_in, image}
 use Rattle.jobs.specs.Reading.{short_asked, length_asked, outline_asked, asked_of, read_asked, types_left, terms_left, filled, counts_told}
 use Rattle.jobs.specs.Writing.{output_asked, write_asked}
-use Rattle.jobs.proofs.Asked.{and_first, and_second, asks_yes}
 use Rattle.rounds.specs.Rounds.{Bytes, Fit, Rewritten, Rewriting, Reread, Rereading}
 use Rattle.rounds.proofs.Decoded.{image_same}
 use Rattle.rounds.proofs.Encoded.{types_back, terms_back, types_told_back, terms_told_back, length_image, fit_take}
 
-formed_ok : (a : form.Answer) → formed a ≡ Ok tt → a ≡ Ok tt
+formed_ok : (a : Answer) → formed a ≡ Ok tt → a ≡ Ok tt
 formed_ok (Ok u) h = refl
 formed_ok (Err f) h = cc
 
@@ -33,19 +32,19 @@ length_filled es table h = length-append es (drop (length es) table) ∙ omega (
 -- answers to the four parts of form make up the answer
 form_all : (m : Meaning) (t n : ℕ) (T M T' M' : List Entry) → sound_asked m ≡ Ok tt → counts_asked t n ≡ Ok tt → room_asked t n (length T) (length M) ≡ Ok tt → take t T ≡ T' → take n M ≡ M' → entries_asked m.role T' M' ≡ Ok tt → form m t n T M ≡ Ok tt
 form_all m t n T M T' M' s k r et en e =
-    ap (λ x. form.and_then x (form.and_then (counts_asked t n) (form.and_then (room_asked t n (length T) (length M)) (entries_asked m.role (take t T) (take n M))))) s
-    ∙ (ap (λ x. form.and_then x (form.and_then (room_asked t n (length T) (length M)) (entries_asked m.role (take t T) (take n M)))) k
-    ∙ (ap (λ x. form.and_then x (entries_asked m.role (take t T) (take n M))) r
+    ap (λ x. and_then x (and_then (counts_asked t n) (and_then (room_asked t n (length T) (length M)) (entries_asked m.role (take t T) (take n M))))) s
+    ∙ (ap (λ x. and_then x (and_then (room_asked t n (length T) (length M)) (entries_asked m.role (take t T) (take n M)))) k
+    ∙ (ap (λ x. and_then x (entries_asked m.role (take t T) (take n M))) r
     ∙ (ap₂ (λ (x y : List Entry). entries_asked m.role x y) et en ∙ e)))
 
 few : (t n : ℕ) → counts_asked t n ≡ Ok tt → (t ≤ 512) × (n ≤ 1024)
 few t n h =
-    let all = and_parts (leb t 512 && leb 1 n) (leb n 1024) (facts.asks_yes _ (Counted t n) h) in
+    let all = and_parts (leb t 512 && leb 1 n) (leb n 1024) (asks_yes _ (Counted t n) h) in
     (leb-true t 512 (and_parts (leb t 512) (leb 1 n) all.0).0, leb-true n 1024 all.1)
 
 wide : (t n a b : ℕ) → room_asked t n a b ≡ Ok tt → (t + n ≤ a) × (n ≤ b)
 wide t n a b h =
-    let three = (and_parts (leb (t + n) a && leb n b && leb a 16384) (leb b 16384) (facts.asks_yes _ (Room a b) h)).0 in
+    let three = (and_parts (leb (t + n) a && leb n b && leb a 16384) (leb b 16384) (asks_yes _ (Room a b) h)).0 in
     let two = (and_parts (leb (t + n) a && leb n b) (leb a 16384) three).0 in
     let one = and_parts (leb (t + n) a) (leb n b) two in
     (leb-true (t + n) a one.0, leb-true n b one.1)
@@ -127,23 +126,23 @@ module _ (m : Meaning) (t n : ℕ) (T M T' M' : List Entry) (fT : Fit T) (fM : F
   abbrev img : List ℕ
   img = image TT MM
 
-  after_sound : form.and_then (counts_asked t n) (form.and_then (room_asked t n (length T) (length M)) (entries_asked m.role TT MM)) ≡ Ok tt
-  after_sound = facts.and_second (sound_asked m) _ f
+  after_sound : and_then (counts_asked t n) (and_then (room_asked t n (length T) (length M)) (entries_asked m.role TT MM)) ≡ Ok tt
+  after_sound = and_second (sound_asked m) _ f
 
   counts_ok : counts_asked t n ≡ Ok tt
-  counts_ok = facts.and_first (counts_asked t n) _ after_sound
+  counts_ok = and_first (counts_asked t n) _ after_sound
 
-  after_counts : form.and_then (room_asked t n (length T) (length M)) (entries_asked m.role TT MM) ≡ Ok tt
-  after_counts = facts.and_second (counts_asked t n) _ after_sound
+  after_counts : and_then (room_asked t n (length T) (length M)) (entries_asked m.role TT MM) ≡ Ok tt
+  after_counts = and_second (counts_asked t n) _ after_sound
 
   long_types : length TT ≡ t
   long_types =
-      let w = wide t n (length T) (length M) (facts.and_first (room_asked t n (length T) (length M)) _ after_counts) in
+      let w = wide t n (length T) (length M) (and_first (room_asked t n (length T) (length M)) _ after_counts) in
       length-take-le t T (omega (arith, w.0))
 
   long_terms : length MM ≡ n
   long_terms =
-      let w = wide t n (length T) (length M) (facts.and_first (room_asked t n (length T) (length M)) _ after_counts) in
+      let w = wide t n (length T) (length M) (and_first (room_asked t n (length T) (length M)) _ after_counts) in
       length-take-le n M w.1
 
   told_types : types_told img ≡ t
@@ -171,7 +170,7 @@ module _ (m : Meaning) (t n : ℕ) (T M T' M' : List Entry) (fT : Fit T) (fM : F
   read_ok =
       let l = long_image in
       ap₂ (λ (x y : ℕ). asked_of m img x y (length T') (length M')) told_types told_terms
-      ∙ ap₂ and_then (outline_all m img t n (length T') (length M') (facts.and_first (sound_asked m) _ f) (omega arith) counts_ok long_image r) (ap formed (ap₂ (λ (x y : List Entry). entries_asked m.role x y) types_same terms_same ∙ facts.and_second (room_asked t n (length T) (length M)) _ after_counts))
+      ∙ ap₂ and_then (outline_all m img t n (length T') (length M') (and_first (sound_asked m) _ f) (omega arith) counts_ok long_image r) (ap formed (ap₂ (λ (x y : List Entry). entries_asked m.role x y) types_same terms_same ∙ and_second (room_asked t n (length T) (length M)) _ after_counts))
 
   counts_same : counts_told img ≡ record { types = t; terms = n }
   counts_same = λ i. record { types = told_types i; terms = told_terms i }

@@ -1,5 +1,5 @@
 -- What the tag of an entry asks of its operands. Assumes nothing.
-use Rattle.std.specs.Prelude.{ℕ, Bool, cond, not, ◌&&◌, ◌||◌, List, ◌==◌, nat_le, nat_lt, slice_index_or}
+use Rattle.std.specs.Prelude.{ℕ, Bool, false, cond, not, ◌&&◌, ◌||◌, List, ◌==◌, nat_le, nat_lt, slice_index_or}
 use Rattle.tables.specs.declared.entry.Entry.{Entry}
 
 -- What is read past a table's end.
@@ -25,6 +25,14 @@ role_tag k = k == 3 || k == 4 || k == 21 || k == 25 || k == 26
 -- How many terms an entry names: two of application and let, none of base value and variable, else one.
 abbrev pub names : ℕ → ℕ
 names k = cond (k == 16 || k == 17) 0 (cond (k == 19 || k == 24) 2 1)
+
+-- The first term that an entry names, of number 0, or the second.
+abbrev pub operand_of : Entry → ℕ → ℕ
+operand_of e j = cond (j == 0) e.first e.second
+
+-- Does an entry bind a variable in the term of number j that it names? Abstraction in its first, let in its second.
+abbrev pub binds : ℕ → ℕ → Bool
+binds k j = cond (j == 0) (k == 18) (cond (j == 1) (k == 24) false)
 
 -- The operands of type i: a kind is at most 2, an entry that is named is a lower one, and what is not used is 0.
 abbrev pub type_operands : Entry → ℕ → Bool

@@ -1,35 +1,26 @@
 //! The question of binding: every variable has a binder.
 ghost use Rattle.std.specs.Prelude.{◌≡◌, ℕ, ◌+◌, ◌-◌, ◌<◌, ◌≤◌, length};
 ghost use Rattle.tables.specs.Asking.{of_each};
-ghost use Rattle.tables.specs.Depths.{bound_at, depths, hand_first, hand_second};
+ghost use Rattle.tables.specs.Depths.{bound_at, depths, hand_down};
 ghost use Rattle.tables.specs.Form.{ask_bound};
 ghost use Rattle.tables.specs.Lower.{Lower, Rooted};
 
 use crate::entry::Entry;
 use crate::fault::FormFault;
-use crate::operand::{ABSTRACTION, LET, VARIABLE, ask, named_terms};
+use crate::operand::{VARIABLE, ask, binds, named_terms, operand_of};
 
-// Hands the depth of term `i` down to the first term that it names.
-fn hand_first(depths: &mut [u16], e: Entry, i: u32, depth: u16)
+// Hands the depth of term `i` down to the term of that number that it names, if it names so many.
+fn hand_down(depths: &mut [u16], e: Entry, number: u8, i: u32, depth: u16)
     requires { (length depths.old ≡ 1024) × ((i < 1024) × ((Lower e i) × (depth ≤ 1024))) }
-    ensures { depths.new ≡ hand_first e depth depths.old }
+    ensures { depths.new ≡ hand_down e number depth depths.old }
 {
-    if named_terms(e.tag) > 0 {
-        depths[e.first as usize] = if e.tag == ABSTRACTION {
+    if number < named_terms(e.tag) {
+        let below = operand_of(e, number) as usize;
+        depths[below] = if binds(e.tag, number) {
             depth + 1
         } else {
             depth
         };
-    }
-}
-
-// Hands the depth of term `i` down to the second term that it names.
-fn hand_second(depths: &mut [u16], e: Entry, i: u32, depth: u16)
-    requires { (length depths.old ≡ 1024) × ((i < 1024) × ((Lower e i) × (depth ≤ 1024))) }
-    ensures { depths.new ≡ hand_second e depth depths.old }
-{
-    if named_terms(e.tag) > 1 {
-        depths[e.second as usize] = if e.tag == LET { depth + 1 } else { depth };
     }
 }
 
@@ -43,8 +34,8 @@ fn find_depths(terms: &[Entry]) -> [u16; 1024]
     for i in (0..n).rev() {
         let e = terms[i as usize];
         let depth = depths[i as usize];
-        hand_first(&mut depths, e, i, depth);
-        hand_second(&mut depths, e, i, depth);
+        hand_down(&mut depths, e, 0, i, depth);
+        hand_down(&mut depths, e, 1, i, depth);
     }
     depths
 }

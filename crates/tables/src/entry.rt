@@ -1,7 +1,7 @@
 //! What stands in a table.
 
 /// One entry of a table. What its operands say goes by its tag.
-#[derive(Clone, Copy, PartialEq, Eq, Debug)]
+#[derive(Clone, Copy, PartialEq, Eq, Debug, Default)]
 pub struct Entry {
     pub tag: u8,
     pub first: u32,

@@ -1,7 +1,7 @@
 //! The questions that one entry answers by itself: its tag, its operands, its role code.
 ghost use Rattle.std.specs.Prelude.{◌≡◌};
 ghost use Rattle.tables.specs.Asking.{asks};
-ghost use Rattle.tables.specs.Entries.{names, one_operand, role_fits, role_tag, term_operands, term_tag, type_operands, type_tag, value_operands};
+ghost use Rattle.tables.specs.Entries.{binds, names, one_operand, operand_of, role_fits, role_tag, term_operands, term_tag, type_operands, type_tag, value_operands};
 ghost use Rattle.tables.specs.Form.{term_asked, type_asked};
 
 use crate::entry::Entry;
@@ -39,7 +39,7 @@ pub const RAISE: u8 = 25;
 pub const RESTRICT: u8 = 26;
 
 /// One question: a no tells the fault.
-pub(crate) fn ask(yes: bool, fault: FormFault) -> Result<(), FormFault>
+pub fn ask<E: Drop>(yes: bool, fault: E) -> Result<(), E>
     ensures { result ≡ asks yes fault }
 {
     if yes { Ok(()) } else { Err(fault) }
@@ -74,6 +74,25 @@ pub fn named_terms(tag: u8) -> u8
         VALUE | VARIABLE => 0,
         APPLICATION | LET => 2,
         _ => 1,
+    }
+}
+
+/// The term of a number that an entry names: the first has number 0, the second 1.
+pub fn operand_of(e: Entry, number: u8) -> u32
+    ensures { result ≡ operand_of e number }
+{
+    if number == 0 { e.first } else { e.second }
+}
+
+/// Does such an entry bind a variable in the term of that number that it names?
+/// An abstraction binds in its first, let in its second.
+pub fn binds(tag: u8, number: u8) -> bool
+    ensures { result ≡ binds tag number }
+{
+    match number {
+        0 => tag == ABSTRACTION,
+        1 => tag == LET,
+        _ => false,
     }
 }
 

@@ -2,7 +2,8 @@ use Rattle.std.proofs.Common.{ℕ, List, length, Ok, Err, sym, ap, ◌∙◌, ar
 use Rattle.roles.specs.Meaning.{Meaning}
 use Rattle.std.proofs.lemmas.Result.{err_from_is_err_and}
 use Rattle.tables.specs.declared.entry.Entry.{Entry}
-use Rattle.jobs.specs.Asking.{told, left}
+use Rattle.tables.specs.Asking.{told}
+use Rattle.jobs.specs.Asking.{left}
 use Rattle.jobs.specs.Image.{types_told, terms_told, types_in, terms_in}
 use Rattle.jobs.specs.Reading.{counts_told, filled}
 use Rattle.jobs.proofs.Asked.{told_value}

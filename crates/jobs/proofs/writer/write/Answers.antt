@@ -4,7 +4,8 @@ use Rattle.roles.specs.Meaning.{Meaning}
 use Rattle.tables.specs.declared.entry.Entry.{Entry}
 use Rattle.tables.specs.Asking as form
 use Rattle.jobs.specs.declared.fault.ImageFault.TheVariants.{Output}
-use Rattle.jobs.specs.Asking.{Answer, asks, and_then, formed, left}
+use Rattle.tables.specs.Asking.{asks, and_then}
+use Rattle.jobs.specs.Asking.{Answer, formed, left}
 use Rattle.jobs.specs.Image.{image}
 use Rattle.jobs.specs.Writing.{write_asked}
 use Rattle.jobs.proofs.Asked.{formed_yes}

@@ -18,8 +18,8 @@ more es ds n i s h e =
 pub loop-i-init : goal.loop-i-init
 loop-i-init c = (refl, depths_none c.args.terms.now _ (omega arith))
 
-pub hand_first-requires : goal.hand_first-requires
-hand_first-requires c =
+pub hand_down-requires : goal.hand_down-requires
+hand_down-requires c =
     let i : ℕ = c.loop-i.i - 1 in (
       c.loop-i.invariant.0,
       (
@@ -28,10 +28,10 @@ hand_first-requires c =
       ),
     )
 
-pub hand_second-requires : goal.hand_second-requires
-hand_second-requires c =
+pub hand_down-requires-in-loop-i : goal.hand_down-requires-in-loop-i
+hand_down-requires-in-loop-i c =
     let i : ℕ = c.loop-i.i - 1 in (
-      ap length c.hand_first.ensures ∙ (length_first (at c.args.terms.now i) (get_or c.loop-i.depths i 0) c.loop-i.depths ∙ c.loop-i.invariant.0),
+      ap length c.hand_down.ensures ∙ (length_first (at c.args.terms.now i) (get_or c.loop-i.depths i 0) c.loop-i.depths ∙ c.loop-i.invariant.0),
       (
         omega arith,
         (c.requires.1 i (omega arith), low c.args.terms.now c.loop-i.depths c.loop-i.i i (omega arith) c.loop-i.invariant.1),
@@ -43,7 +43,7 @@ loop-i-preserved c =
     let i : ℕ = c.loop-i.i - 1 in
     let e : Entry = at c.args.terms.now i in
     let d : ℕ = get_or c.loop-i.depths i 0 in
-    let after : c.hand_second.new.depths ≡ hand e d c.loop-i.depths = c.hand_second.ensures ∙ ap (hand_second e d) c.hand_first.ensures in (
+    let after : c.hand_down-in-loop-i.new.depths ≡ hand e d c.loop-i.depths = c.hand_down-in-loop-i.ensures ∙ ap (hand_second e d) c.hand_down.ensures in (
       ap length after ∙ (length_second e d (hand_first e d c.loop-i.depths) ∙ (length_first e d c.loop-i.depths ∙ c.loop-i.invariant.0)),
       after ∙ more c.args.terms.now c.loop-i.depths c.loop-i.i i (omega arith) (omega arith) c.loop-i.invariant.1,
     )
