@@ -1,11 +1,14 @@
 -- Depths handed down by one term more, and how large they are at most.
-use Rattle.std.proofs.Common.{◌≡◌, ℕ, zero, suc, ◌+◌, ◌<◌, ◌≤◌, ltb, ◌⊎◌, List, [], ◌∷◌, length, get_or, drop, set, replicate, sym, refl, ap, ◌∙◌, inl, inr, arith}
-use Rattle.std.proofs.lemmas.List.{drop_more, drop_all, get_or-set_same, get_or-set_other, length-set, set_past}
+use Rattle.std.proofs.Common.{◌≡◌, ℕ, zero, suc, ◌+◌, ◌<◌, ◌≤◌, ltb, ◌⊎◌, List, [], ◌∷◌, ◌++◌, length, get_or, drop, set, replicate, sym, refl, ap, ◌∙◌, subst, inl, inr, append_assoc, arith, length-append}
+use Rattle.std.proofs.Math.Seq.{get_or-append_seam}
+use Rattle.std.specs.List.{push}
+use Rattle.std.proofs.lemmas.List.{drop_more, get_or-set_same, get_or-set_other, length-set, set_past, length_push, nil_from_length, append-nil}
 use Rattle.std.proofs.lemmas.Bool.{cases_eq, cases_lt, cond_both}
 use Rattle.std.proofs.lemmas.Bool.Decides.{nat_tests}
 use Rattle.tables.specs.declared.entry.Entry.{Entry}
 use Rattle.tables.specs.Entries.{at, no_entry, names}
-use Rattle.tables.specs.Depths.{binds_first, binds_second, hand_first, hand_second, hand, depths_from}
+use Rattle.tables.specs.Depths.{binds_first, binds_second, hand_first, hand_second, hand, depths_from, depths}
+use Rattle.tables.specs.Lower.{Lower, Rooted}
 
 -- a value put into a list is read there, or what stood there before
 set_most : (xs : List ℕ) (i j v b : ℕ) → get_or xs j 0 ≤ b → v ≤ b → get_or (set xs i v) j 0 ≤ b
@@ -64,10 +67,53 @@ length_depths i (e ∷ es) =
     let d : ℕ = get_or ds i 0 in
     length_second e d (hand_first e d ds) ∙ (length_first e d ds ∙ length_depths (i + 1) es)
 
--- before any term has handed its depth down
-pub depths_none : (es : List Entry) (n : ℕ) → length es ≤ n → replicate 1024 0 ≡ depths_from n (drop n es)
-depths_none es n h = ap (depths_from n) (sym (drop_all n es h))
-
 -- the term at i hands its depth down
 pub depths_more : (es : List Entry) (i : ℕ) → i < length es → hand (at es i) (get_or (depths_from (i + 1) (drop (i + 1) es)) i 0) (depths_from (i + 1) (drop (i + 1) es)) ≡ depths_from i (drop i es)
 depths_more es i h = ap (depths_from i) (sym (drop_more es i no_entry h))
+
+-- the terms from left on have handed their depths down to ds
+pub record HandedTo (terms left : List Entry) (ds : List ℕ) : Type 0 where
+  pub done : List Entry
+  pub parts : terms ≡ left ++ done
+  pub handed : ds ≡ depths_from (length left) done
+
+-- before any term has handed its depth down
+pub handed_none : (terms : List Entry) → HandedTo terms terms (replicate 1024 0)
+handed_none terms = record { done = []; parts = sym (append-nil terms); handed = refl }
+
+-- when all have
+pub handed_all : (terms left : List Entry) (ds : List ℕ) → HandedTo terms left ds → length left ≡ 0 → ds ≡ depths terms
+handed_all terms left ds h n =
+    let e : left ≡ [] = nil_from_length left n in
+    h.handed ∙ (ap (λ k. depths_from k h.done) n ∙ ap (depths_from 0) (sym (h.parts ∙ ap (λ l. l ++ h.done) e)))
+
+-- the last that is left, e at place i
+module _ (terms left left' : List Entry) (ds : List ℕ) (e : Entry) (i : ℕ) (h : HandedTo terms left ds) (l : left ≡ push left' e) (p : i ≡ length left') where
+  all : terms ≡ left' ++ (e ∷ h.done)
+  all = h.parts ∙ (ap (λ x. x ++ h.done) l ∙ append_assoc left' (e ∷ []) h.done)
+
+  above : ds ≡ depths_from (i + 1) h.done
+  above = h.handed ∙ ap (λ k. depths_from k h.done) (ap length l ∙ (length_push left' e ∙ ap (λ k. k + 1) (sym p)))
+
+  long : length terms ≡ i + 1 + length h.done
+  long = let q = length-append left' (e ∷ h.done) in let r = ap length all in omega arith
+
+  pub within : i < length terms
+  within = let q = long in omega arith
+
+  pub here : at terms i ≡ e
+  here = ap (λ k. at terms k) p ∙ (ap (λ x. at x (length left')) all ∙ get_or-append_seam left' e h.done no_entry)
+
+  pub lower : Rooted terms → Lower e i
+  lower r = subst (λ x. Lower x i) here (r i within)
+
+  pub low : length terms ≤ 1024 → get_or ds i 0 ≤ 1024
+  low few = let q = long in rw above (omega (arith, depth_most (i + 1) h.done i))
+
+  pub handed_more : HandedTo terms left' (hand e (get_or ds i 0) ds)
+  handed_more =
+      record {
+        done = e ∷ h.done;
+        parts = all;
+        handed = ap (λ x. hand e (get_or x i 0) x) above ∙ ap (λ k. depths_from k (e ∷ h.done)) p;
+      }

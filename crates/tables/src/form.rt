@@ -4,12 +4,11 @@ ghost use Rattle.tables.specs.Asking.{of_each};
 ghost use Rattle.tables.specs.Form as spec;
 ghost use Rattle.tables.specs.Form.{ask_term};
 
-use crate::binding::ask_bound;
 use crate::entry::{Counts, Entry};
 use crate::fault::FormFault;
 use crate::operand::{ask, ask_term};
 use crate::size::ask_types;
-use crate::usage::ask_uses;
+use crate::terms::Terms;
 use roles::refusal::ask_sound;
 use roles::scheme::Scheme;
 
@@ -47,9 +46,9 @@ fn ask_terms<S: Scheme>(scheme: &S, t: u32, terms: &[Entry]) -> Result<(), FormF
     requires { (t ≤ 512) × (length terms.now ≤ 1024) }
     ensures { result ≡ of_each (ask_term (S.meaning scheme.now).role t terms.now) (length terms.now) 0 }
 {
-    let n = terms.len() as u32;
-    for i in 0..n {
-        ask_term(scheme, terms[i as usize], i, t, t + i)?;
+    for (i, e) in terms.iter().enumerate() {
+        let i = i as u32;
+        ask_term(scheme, *e, i, t, t + i)?;
     }
     Ok(())
 }
@@ -62,8 +61,9 @@ fn ask_entries<S: Scheme>(scheme: &S, types: &[Entry], terms: &[Entry]) -> Resul
     let t = types.len() as u32;
     ask_types(scheme, types)?;
     ask_terms(scheme, t, terms)?;
-    ask_uses(t, terms)?;
-    ask_bound(t, terms)
+    let terms = Terms { t, entries: terms };
+    terms.ask_uses()?;
+    terms.ask_bound()
 }
 
 /// Has a job of so many types and terms, in two lent tables, the form of one? The first question answered with no is told.

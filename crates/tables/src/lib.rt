@@ -7,4 +7,5 @@ pub mod fault;
 pub mod form;
 pub mod operand;
 pub mod size;
+mod terms;
 pub mod usage;

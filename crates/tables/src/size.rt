@@ -28,13 +28,12 @@ pub(crate) fn ask_types<S: Scheme>(scheme: &S, types: &[Entry]) -> Result<(), Fo
     ensures { result ≡ of_each (ask_type (S.meaning scheme.now).role types.now) (length types.now) 0 }
 {
     let mut sizes = [0u32; 512];
-    let t = types.len() as u32;
-    for i in 0..t {
-        let e = types[i as usize];
-        ask_type(scheme, e, i)?;
-        let size = written_out(e, i, &sizes);
-        ask(size <= 4096, FormFault::Size { place: i, size })?;
-        sizes[i as usize] = size;
+    for (i, e) in types.iter().enumerate() {
+        let place = i as u32;
+        ask_type(scheme, *e, place)?;
+        let size = written_out(*e, place, &sizes);
+        ask(size <= 4096, FormFault::Size { place, size })?;
+        sizes[i] = size;
     }
     Ok(())
 }
