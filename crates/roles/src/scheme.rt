@@ -1,4 +1,4 @@
-ghost use Rattle.std.specs.Prelude.{◌≡◌};
+ghost use Rattle.std.specs.Prelude.{◌≡◌, ◌&&◌};
 ghost use Rattle.roles.specs.Meaning.{Meaning, Lawful};
 ghost use Rattle.roles.specs.Theorems.{OrderDecides};
 
@@ -18,6 +18,13 @@ pub trait Scheme {
     /// Is the code a role?
     fn is_role(&self, code: u64) -> bool
         ensures { result ≡ (meaning self.now).role code };
+
+    /// Are both codes roles?
+    fn are_roles(&self, a: u64, b: u64) -> bool
+        ensures { result ≡ ((meaning self.now).role a && (meaning self.now).role b) }
+    {
+        self.is_role(a) && self.is_role(b)
+    }
 
     /// Does `a` dominate `b`? A code that is no role dominates nothing and is dominated by none.
     fn dominates(&self, a: u64, b: u64) -> bool
