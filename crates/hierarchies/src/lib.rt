@@ -7,6 +7,7 @@ ghost use Rattle.hierarchies.specs.Laws.{hierarchy_lawful};
 
 use codes::bits::{covers, fits, holds, without};
 use roles::scheme::Scheme;
+use std::fmt;
 
 /// A hierarchy of `count` roles. Bit j of row i says that role j is i or a junior of i.
 #[derive(Clone, Copy)]
@@ -97,5 +98,11 @@ impl Scheme for Hierarchy {
 
     fn bottom(&self) -> u64 {
         EMPTY
+    }
+}
+
+impl fmt::Display for Hierarchy {
+    fn fmt<W: fmt::Write>(&self, f: &mut fmt::Formatter<W>) -> fmt::Result {
+        write!(f, "hierarchy of {} roles", self.count)
     }
 }

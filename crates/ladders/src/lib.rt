@@ -5,6 +5,7 @@ ghost use Rattle.ladders.specs.Kind.{ladder};
 ghost use Rattle.ladders.specs.Laws.{ladder_lawful};
 
 use roles::scheme::Scheme;
+use std::fmt;
 
 /// The ranks 0 to `top`, sound from top 1 up.
 #[derive(Clone, Copy)]
@@ -50,5 +51,11 @@ impl Scheme for Ladder {
 
     fn bottom(&self) -> u64 {
         LOWEST
+    }
+}
+
+impl fmt::Display for Ladder {
+    fn fmt<W: fmt::Write>(&self, f: &mut fmt::Formatter<W>) -> fmt::Result {
+        write!(f, "ladder with top rank {}", self.top)
     }
 }

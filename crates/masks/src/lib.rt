@@ -6,6 +6,7 @@ ghost use Rattle.masks.specs.Laws.{mask_lawful};
 
 use codes::bits::{covers, fits, without};
 use roles::scheme::Scheme;
+use std::fmt;
 
 /// The mask of a width, sound for widths 1 to 64.
 #[derive(Clone, Copy)]
@@ -51,5 +52,11 @@ impl Scheme for Mask {
 
     fn bottom(&self) -> u64 {
         EMPTY
+    }
+}
+
+impl fmt::Display for Mask {
+    fn fmt<W: fmt::Write>(&self, f: &mut fmt::Formatter<W>) -> fmt::Result {
+        write!(f, "mask of {} bits", self.width)
     }
 }

@@ -8,6 +8,7 @@ ghost use Rattle.pairs.specs.Parts.{AreParts};
 ghost use Rattle.pairs.specs.Laws.{pair_lawful};
 
 use roles::scheme::Scheme;
+use std::fmt;
 
 /// Two schemes side by side, sound if both are and their widths add to at most 64.
 #[derive(Clone, Copy)]
@@ -117,5 +118,11 @@ impl<A: Scheme, B: Scheme> Scheme for Pair<A, B> {
         } else {
             0
         }
+    }
+}
+
+impl<A: fmt::Display, B: fmt::Display> fmt::Display for Pair<A, B> {
+    fn fmt<W: fmt::Write>(&self, f: &mut fmt::Formatter<W>) -> fmt::Result {
+        write!(f, "pair of a {} and a {}", self.first, self.second)
     }
 }

@@ -2,6 +2,8 @@ ghost use Rattle.std.specs.Prelude.{◌≡◌, ◌&&◌};
 ghost use Rattle.roles.specs.Meaning.{Meaning, Lawful};
 ghost use Rattle.roles.specs.Theorems.{OrderDecides};
 
+use std::fmt;
+
 /// A scheme of roles. Asking it changes nothing.
 pub trait Scheme {
     // the roles, which of them dominates which, and the answers that follow from these two
@@ -55,6 +57,14 @@ pub trait Scheme {
 pub enum SchemeFault {
     /// The scheme is unsound, so it has no roles.
     Unsound,
+}
+
+impl fmt::Display for SchemeFault {
+    fn fmt<W: fmt::Write>(&self, f: &mut fmt::Formatter<W>) -> fmt::Result {
+        match self {
+            SchemeFault::Unsound => write!(f, "the scheme is not sound"),
+        }
+    }
 }
 
 /// The role set and the order decide every other answer but the width, so what is proved from a meaning is proved from these two.
