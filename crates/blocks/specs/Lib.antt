@@ -1,3 +1,4 @@
 pub mod Format
 pub mod Kinds
 pub mod Readings
+pub mod Numbers

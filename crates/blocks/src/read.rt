@@ -1,32 +1,14 @@
 ghost use Rattle.std.specs.Prelude.{◌≡◌, true, false, if◌then◌else◌, Some, None, Ok, Err};
-ghost use Rattle.blocks.specs.Format.{after_rows, block_by, block_of, has_rows, hierarchy_in, number_of, place_of, ranked, rows_after, rows_in, told};
+ghost use Rattle.blocks.specs.Format.{after_rows, block_by, block_of, has_rows, hierarchy_in, ranked, rows_after, rows_in, told};
+ghost use Rattle.blocks.specs.Numbers.{number_of_kind};
 ghost use Rattle.blocks.specs.Readings.{SchemeReadings};
 
-use crate::block::{Block, BlockFault};
+use crate::block::{Block, BlockFault, Kind};
 use codes::bytes::read_code;
 use hierarchies::Hierarchy;
 use ladders::Ladder;
 use masks::Mask;
 use pairs::Pair;
-use roles::fault::Fault;
-
-impl Fault for BlockFault {
-    ghost number_of = { number_of };
-
-    ghost place_of = { place_of };
-
-    fn number(&self) -> u8 {
-        match self {
-            BlockFault::NotWhole | BlockFault::UnknownKind(_) => 1,
-        }
-    }
-
-    fn place(&self) -> u32 {
-        match self {
-            BlockFault::NotWhole | BlockFault::UnknownKind(_) => 0,
-        }
-    }
-}
 
 // How many rows follow a size.
 fn rows_after(size: u8) -> usize
@@ -41,8 +23,8 @@ fn read_rows(size: u8, bytes: &[u8]) -> Option<[u64; 64]>
 {
     let count = rows_after(size);
     let mut rows = [0; 64];
-    for i in 0..count {
-        rows[i] = read_code(bytes, 8 * i)?;
+    for (i, row) in rows[..count].iter_mut().enumerate() {
+        *row = read_code(bytes, 8 * i)?;
     }
     Some(rows)
 }
@@ -51,9 +33,7 @@ fn read_rows(size: u8, bytes: &[u8]) -> Option<[u64; 64]>
 fn read_hierarchy(size: u8, bytes: &[u8]) -> Result<(Hierarchy, &[u8]), BlockFault>
     ensures { elim result [ Ok p ↦ (has_rows size bytes.now ≡ true) × (p.0 ≡ hierarchy_in size bytes.now) × (p.1.now ≡ after_rows size bytes.now) | Err e ↦ (has_rows size bytes.now ≡ false) × (e ≡ BlockFault.NotWhole) ] }
 {
-    let Some(rows) = read_rows(size, bytes) else {
-        return Err(BlockFault::NotWhole);
-    };
+    let rows = read_rows(size, bytes).ok_or(BlockFault::NotWhole)?;
     let hierarchy = Hierarchy {
         count: u32::from(size),
         rows,
@@ -65,34 +45,31 @@ fn read_hierarchy(size: u8, bytes: &[u8]) -> Result<(Hierarchy, &[u8]), BlockFau
 fn read_ranked(first: Hierarchy, bytes: &[u8]) -> Result<(Block, &[u8]), BlockFault>
     ensures { told result (λ p. record { block = p.0; rest = p.1.now }) ≡ ranked first bytes.now }
 {
-    if bytes.len() < 1 {
-        return Err(BlockFault::NotWhole);
-    }
-    let second = Ladder { top: bytes[0] };
-    Ok((Block::Ranked(Pair { first, second }), &bytes[1..]))
+    let (top, rest) = bytes.split_first().ok_or(BlockFault::NotWhole)?;
+    let second = Ladder { top: *top };
+    Ok((Block::Ranked(Pair { first, second }), rest))
 }
 
 // A size and what follows it, by kind.
-fn read_kind(kind: u8, size: u8, bytes: &[u8]) -> Result<(Block, &[u8]), BlockFault>
-    ensures { told result (λ p. record { block = p.0; rest = p.1.now }) ≡ block_by kind size bytes.now }
+fn read_kind(kind: Kind, size: u8, bytes: &[u8]) -> Result<(Block, &[u8]), BlockFault>
+    ensures { told result (λ p. record { block = p.0; rest = p.1.now }) ≡ block_by (number_of_kind kind) size bytes.now }
 {
     match kind {
-        0 => Ok((
+        Kind::Mask => Ok((
             Block::Mask(Mask {
                 width: u32::from(size),
             }),
             bytes,
         )),
-        1 => Ok((Block::Ladder(Ladder { top: size }), bytes)),
-        2 => {
+        Kind::Ladder => Ok((Block::Ladder(Ladder { top: size }), bytes)),
+        Kind::Hierarchy => {
             let (rows, rest) = read_hierarchy(size, bytes)?;
             Ok((Block::Hierarchy(rows), rest))
         }
-        3 => {
+        Kind::Ranked => {
             let (rows, rest) = read_hierarchy(size, bytes)?;
             read_ranked(rows, rest)
         }
-        _ => Err(BlockFault::UnknownKind(kind)),
     }
 }
 
@@ -100,10 +77,10 @@ fn read_kind(kind: u8, size: u8, bytes: &[u8]) -> Result<(Block, &[u8]), BlockFa
 pub fn read_block(bytes: &[u8]) -> Result<(Block, &[u8]), BlockFault>
     ensures { told result (λ p. record { block = p.0; rest = p.1.now }) ≡ block_of bytes.now }
 {
-    if bytes.len() < 2 {
+    let [kind, size, rest @ ..] = bytes else {
         return Err(BlockFault::NotWhole);
-    }
-    read_kind(bytes[0], bytes[1], &bytes[2..])
+    };
+    read_kind(Kind::try_from(*kind)?, *size, rest)
 }
 
 /// What the kinds answer on small examples.

@@ -5,19 +5,8 @@ ghost use Rattle.codes.specs.Bytes.{bytes_of, code_at};
 pub fn read_code(bytes: &[u8], p: usize) -> Option<u64>
     ensures { result ≡ code_at bytes.now p }
 {
-    if bytes.len() < 8 || p > bytes.len() - 8 {
-        return None;
-    }
-    Some(u64::from_le_bytes([
-        bytes[p],
-        bytes[p + 1],
-        bytes[p + 2],
-        bytes[p + 3],
-        bytes[p + 4],
-        bytes[p + 5],
-        bytes[p + 6],
-        bytes[p + 7],
-    ]))
+    let code = bytes.get(p..)?.first_chunk::<8>()?;
+    Some(u64::from_le_bytes(*code))
 }
 
 /// A number of 16 bits as bytes, the lowest first.

@@ -12,7 +12,7 @@ use Rattle.dispatcher.specs.declared.report.Codes.{Codes}
 use Rattle.dispatcher.specs.declared.report.Refusal.{Refusal}
 use Rattle.dispatcher.specs.declared.report.Refusal.TheVariants.{Block, Scheme, TooShort, TooLong, BoundNoRole, DutyNoRole}
 use Rattle.dispatcher.specs.declared.report.Decision.{Decision}
-use Rattle.dispatcher.specs.declared.report.Decision.TheVariants.{MayStart, MayNotStart, Refused}
+use Rattle.dispatcher.specs.declared.report.Decision.TheVariants.{MayStart, MayNotStart}
 use Rattle.dispatcher.specs.declared.report.Report.{Report}
 
 -- the number of a refusal
@@ -34,12 +34,12 @@ place_of BoundNoRole = 0
 place_of DutyNoRole = 0
 
 -- the decision on two codes: the questions in their order, then the comparison
-abbrev pub compared : Meaning → Codes → Decision
+abbrev pub compared : Meaning → Codes → Result Decision Refusal
 compared m codes =
-    cond (not m.sound) (Refused (Scheme Unsound))
-    (cond (not (m.role codes.bound)) (Refused BoundNoRole)
-    (cond (not (m.role codes.on_duty)) (Refused DutyNoRole)
-    (cond (m.dom codes.on_duty codes.bound) MayStart MayNotStart)))
+    cond (not m.sound) (Err (Scheme Unsound))
+    (cond (not (m.role codes.bound)) (Err BoundNoRole)
+    (cond (not (m.role codes.on_duty)) (Err DutyNoRole)
+    (Ok (cond (m.dom codes.on_duty codes.bound) MayStart MayNotStart))))
 
 -- the codes after a block: the role on duty, then the bound
 abbrev pub codes_in : List ℕ → Codes
@@ -54,12 +54,12 @@ abbrev pub after_block : Parsed → Report
 after_block p =
     cond (length p.rest == 16)
     (record { scheme = Some p.block; codes = Some (codes_in p.rest); decision = compared (scheme_of p.block) (codes_in p.rest) })
-    (record { scheme = Some p.block; codes = None; decision = Refused (wrong_length (scheme_of p.block) (length p.rest)) })
+    (record { scheme = Some p.block; codes = None; decision = Err (wrong_length (scheme_of p.block) (length p.rest)) })
 
 -- what is reported on what was read of a block
 abbrev pub reported : Result Parsed BlockFault → Report
 reported (Ok p) = after_block p
-reported (Err fault) = record { scheme = None; codes = None; decision = Refused (Block fault) }
+reported (Err fault) = record { scheme = None; codes = None; decision = Err (Block fault) }
 
 -- the report on an input: a scheme block, the role on duty, the bound
 abbrev pub report_on : List ℕ → Report

@@ -1,8 +1,9 @@
 -- Codes that hold the rows of their bits, and rows that are joined. Assumes nothing.
-use Rattle.std.specs.Prelude.{◌≡◌, ℕ, zero, suc, ◌+◌, ◌^◌, ◌<◌, ◌≤◌, Bool, true, false, cond, not, ◌⊎◌, List, ◌≢◌, refl}
-use Rattle.std.proofs.Common.{sym, ap, subst, ◌∙◌, inl, inr, arith, le_trans, add-one, pow_pos}
+use Rattle.std.specs.Prelude.{◌≡◌, ℕ, zero, suc, ◌+◌, ◌^◌, ◌<◌, ◌≤◌, Bool, true, false, cond, not, ◌⊎◌, List, ◌∷◌, drop, slice_index, ◌≢◌, refl}
+use Rattle.std.proofs.Common.{sym, ap, subst, ◌∙◌, inl, inr, arith, le_trans, add-one, add-zero, pow_pos, get_or-drop}
 use Rattle.std.specs.Int.Bits.{bit_or}
 use Rattle.std.proofs.lemmas.Nat.{or_lt}
+use Rattle.std.proofs.lemmas.List.{drop-drop}
 use Rattle.std.proofs.lemmas.Bool.{cond-true, cond-false, or_cases, or_left, or_right, not-true, not_from_false, eqb-true, eqb-false, eq-eqb, ne_eqb, cases_eq, cases_lt}
 use Rattle.codes.specs.Bits.{bit, holds_bit, superset}
 use Rattle.codes.proofs.Digits.{bit-or, bit_cases, zero_bit}
@@ -82,3 +83,7 @@ joined_then rows c i x y e o f = f ∙ ap (λ (z : ℕ). bit_or z (row rows i)) 
 
 pub joined_else : (rows : List ℕ) (c i x y : ℕ) → x ≡ joined_rows rows c i → holds_bit c i ≡ false → y ≡ x → y ≡ joined_rows rows c (i + 1)
 joined_else rows c i x y e o f = f ∙ e ∙ sym (joined_more rows c i ∙ cond-false (holds_bit c i) _ _ o)
+
+-- the first of the rows from i on is row i, and those after it are the rows from i + 1 on
+pub row_and_rest : (rows rest : List ℕ) (x i : ℕ) → x ∷ rest ≡ drop i rows → (x ≡ row rows i) × (rest ≡ drop (i + 1) rows)
+row_and_rest rows rest x i e = (ap (λ l. slice_index l 0) e ∙ (get_or-drop i rows 0 0 ∙ ap (slice_index rows) (add-zero i)), ap (drop 1) e ∙ drop-drop 1 i rows)

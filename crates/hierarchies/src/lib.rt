@@ -7,6 +7,7 @@ ghost use Rattle.hierarchies.specs.Laws.{hierarchy_lawful};
 
 use codes::bits::{covers, fits, holds, without};
 use roles::scheme::Scheme;
+use std::fmt;
 
 /// A hierarchy of `count` roles. Bit j of row i says that role j is i or a junior of i.
 #[derive(Clone, Copy)]
@@ -29,12 +30,7 @@ impl Hierarchy {
         requires { self.now.count ≤ 64 }
         ensures { result ≡ closed self.now.count self.now.rows code }
     {
-        for j in 0..self.count {
-            if !self.keeps(code, j) {
-                return false;
-            }
-        }
-        true
+        (0..self.count).all(|j| self.keeps(code, j))
     }
 
     // Does row `i` hold its own bit, none from `count` up, and the whole row of each of its bits?
@@ -52,9 +48,9 @@ impl Hierarchy {
         ensures { result ≡ joined_rows self.now.rows code self.now.count }
     {
         let mut joined = 0;
-        for j in 0..self.count {
+        for (j, row) in (0..self.count).zip(&self.rows) {
             if holds(code, j) {
-                joined |= self.rows[j as usize];
+                joined |= *row;
             }
         }
         joined
@@ -73,12 +69,7 @@ impl Scheme for Hierarchy {
         if self.count < 1 || self.count > 64 {
             return false;
         }
-        for i in 0..self.count {
-            if !self.row_is_sound(i) {
-                return false;
-            }
-        }
-        true
+        (0..self.count).all(|i| self.row_is_sound(i))
     }
 
     fn width(&self) -> u32 {
@@ -90,34 +81,28 @@ impl Scheme for Hierarchy {
     }
 
     fn dominates(&self, a: u64, b: u64) -> bool {
-        self.is_role(a) && self.is_role(b) && covers(a, b)
+        self.are_roles(a, b) && covers(a, b)
     }
 
     fn join(&self, a: u64, b: u64) -> Option<u64> {
-        if self.is_role(a) && self.is_role(b) {
-            Some(a | b)
-        } else {
-            None
-        }
+        self.are_roles(a, b).then_some(a | b)
     }
 
     fn meet(&self, a: u64, b: u64) -> Option<u64> {
-        if self.is_role(a) && self.is_role(b) {
-            Some(a & b)
-        } else {
-            None
-        }
+        self.are_roles(a, b).then_some(a & b)
     }
 
     fn remainder(&self, b: u64, a: u64) -> Option<u64> {
-        if self.is_role(b) && self.is_role(a) {
-            Some(self.join_rows(without(b, a)))
-        } else {
-            None
-        }
+        self.are_roles(b, a).then(|| self.join_rows(without(b, a)))
     }
 
     fn bottom(&self) -> u64 {
         EMPTY
+    }
+}
+
+impl fmt::Display for Hierarchy {
+    fn fmt<W: fmt::Write>(&self, f: &mut fmt::Formatter<W>) -> fmt::Result {
+        write!(f, "hierarchy of {} roles", self.count)
     }
 }

@@ -5,6 +5,7 @@ ghost use Rattle.ladders.specs.Kind.{ladder};
 ghost use Rattle.ladders.specs.Laws.{ladder_lawful};
 
 use roles::scheme::Scheme;
+use std::fmt;
 
 /// The ranks 0 to `top`, sound from top 1 up.
 #[derive(Clone, Copy)]
@@ -33,34 +34,28 @@ impl Scheme for Ladder {
     }
 
     fn dominates(&self, a: u64, b: u64) -> bool {
-        self.is_role(a) && self.is_role(b) && a >= b
+        self.are_roles(a, b) && a >= b
     }
 
     fn join(&self, a: u64, b: u64) -> Option<u64> {
-        if self.is_role(a) && self.is_role(b) {
-            Some(if a < b { b } else { a })
-        } else {
-            None
-        }
+        self.are_roles(a, b).then_some(a.max(b))
     }
 
     fn meet(&self, a: u64, b: u64) -> Option<u64> {
-        if self.is_role(a) && self.is_role(b) {
-            Some(if a < b { a } else { b })
-        } else {
-            None
-        }
+        self.are_roles(a, b).then_some(a.min(b))
     }
 
     fn remainder(&self, b: u64, a: u64) -> Option<u64> {
-        if self.is_role(b) && self.is_role(a) {
-            Some(if a >= b { 0 } else { b })
-        } else {
-            None
-        }
+        self.are_roles(b, a).then_some(if a >= b { 0 } else { b })
     }
 
     fn bottom(&self) -> u64 {
         LOWEST
+    }
+}
+
+impl fmt::Display for Ladder {
+    fn fmt<W: fmt::Write>(&self, f: &mut fmt::Formatter<W>) -> fmt::Result {
+        write!(f, "ladder with top rank {}", self.top)
     }
 }

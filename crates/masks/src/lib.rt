@@ -6,6 +6,7 @@ ghost use Rattle.masks.specs.Laws.{mask_lawful};
 
 use codes::bits::{covers, fits, without};
 use roles::scheme::Scheme;
+use std::fmt;
 
 /// The mask of a width, sound for widths 1 to 64.
 #[derive(Clone, Copy)]
@@ -34,34 +35,28 @@ impl Scheme for Mask {
     }
 
     fn dominates(&self, a: u64, b: u64) -> bool {
-        self.is_role(a) && self.is_role(b) && covers(a, b)
+        self.are_roles(a, b) && covers(a, b)
     }
 
     fn join(&self, a: u64, b: u64) -> Option<u64> {
-        if self.is_role(a) && self.is_role(b) {
-            Some(a | b)
-        } else {
-            None
-        }
+        self.are_roles(a, b).then_some(a | b)
     }
 
     fn meet(&self, a: u64, b: u64) -> Option<u64> {
-        if self.is_role(a) && self.is_role(b) {
-            Some(a & b)
-        } else {
-            None
-        }
+        self.are_roles(a, b).then_some(a & b)
     }
 
     fn remainder(&self, b: u64, a: u64) -> Option<u64> {
-        if self.is_role(b) && self.is_role(a) {
-            Some(without(b, a))
-        } else {
-            None
-        }
+        self.are_roles(b, a).then_some(without(b, a))
     }
 
     fn bottom(&self) -> u64 {
         EMPTY
+    }
+}
+
+impl fmt::Display for Mask {
+    fn fmt<W: fmt::Write>(&self, f: &mut fmt::Formatter<W>) -> fmt::Result {
+        write!(f, "mask of {} bits", self.width)
     }
 }

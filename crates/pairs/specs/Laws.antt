@@ -138,12 +138,15 @@ module _ (m n : Meaning) (lm : Lawful m) (ln : Lawful n) where
   }
 
   -- two roles are packed without loss
+  -- the second's part leaves a bit to the first's
+  pub narrow : pair_sound m n ≡ true → (w : ℕ) → w ≡ n.width → w < 64
+  narrow s w e = let both = room s in let least = lm.wide.0 in omega arith
+
   pub placed : pair_sound m n ≡ true → (w h l : ℕ) → w ≡ n.width → m.role h ≡ true → n.role l ≡ true → (w < 64) × (l < 2 ^ w) × (h * 2 ^ w + l < 2 ^ 64)
   placed s w h l e p q =
       let first = lm.role_fits h p in
       let second : l < 2 ^ w = subst (λ (k : ℕ). l < 2 ^ k) (sym e) (ln.role_fits l q) in
       let both = room s in
-      let least = lm.wide.0 in
-      let less : w < 64 = omega arith in
+      let less = narrow s w e in
       let total : m.width + w ≤ 64 = omega arith in
       (less, second, omega (arith, mul-add-lt h (2 ^ w) l (2 ^ m.width) first second, pow-add 2 m.width w, pow_mono total))

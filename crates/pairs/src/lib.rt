@@ -1,11 +1,14 @@
 //! Pairs: a role of each of two schemes in one code, the second's in the low bits.
 #![tactic(auto)]
 
-ghost use Rattle.std.specs.Prelude.{◌≡◌, ◌^◌, ◌<◌};
-ghost use Rattle.pairs.specs.Kind.{high, low, packed, pair, pair_code};
+ghost use Rattle.std.specs.Prelude.{◌≡◌, true, false};
+ghost use Rattle.std.specs.Option.{MatchOption};
+ghost use Rattle.pairs.specs.Kind.{packed, pair, pair_code, pair_sound};
+ghost use Rattle.pairs.specs.Parts.{AreParts};
 ghost use Rattle.pairs.specs.Laws.{pair_lawful};
 
 use roles::scheme::Scheme;
+use std::fmt;
 
 /// Two schemes side by side, sound if both are and their widths add to at most 64.
 #[derive(Clone, Copy)]
@@ -14,42 +17,44 @@ pub struct Pair<A, B> {
     pub second: B,
 }
 
-// The first's part of a code, above the second's `w` bits.
-fn upper(code: u64, w: u32) -> u64
-    requires { w < 64 }
-    ensures { result ≡ high w code }
-{
-    code >> w
-}
-
-// The second's part of a code, its low `w` bits.
-fn lower(code: u64, w: u32) -> u64
-    requires { w < 64 }
-    ensures { result ≡ low w code }
-{
-    code & ((1 << w) - 1)
-}
-
-// One code of two parts.
-fn pack(x: u64, y: u64, w: u32) -> u64
-    requires width { w < 64 }
-    requires second { y < 2 ^ w }
-    requires whole { packed w x y < 2 ^ 64 }
-    ensures { result ≡ packed w x y }
-{
-    x * (1 << w) + y
+// The parts of a code: a role of each scheme, where the code is a role of the pair.
+#[derive(Clone, Copy)]
+struct Parts {
+    first: u64,
+    second: u64,
 }
 
 impl<A: Scheme, B: Scheme> Pair<A, B> {
+    // The parts of a code, the second's in the low bits; none where the pair is unsound.
+    fn split(&self, code: u64) -> Option<Parts>
+        ensures { MatchOption result (pair_sound (A.Scheme.meaning self.now.first) (B.Scheme.meaning self.now.second) ≡ false) (AreParts (A.Scheme.meaning self.now.first) (B.Scheme.meaning self.now.second) code) }
+    {
+        if !self.sound() {
+            return None;
+        }
+        let w = self.second.width();
+        Some(Parts {
+            first: code >> w,
+            second: code & ((1 << w) - 1),
+        })
+    }
+
+    // One code of two roles.
+    fn pack(&self, x: u64, y: u64) -> u64
+        requires sound { pair_sound (A.Scheme.meaning self.now.first) (B.Scheme.meaning self.now.second) ≡ true }
+        requires first { (A.Scheme.meaning self.now.first).role x ≡ true }
+        requires second { (B.Scheme.meaning self.now.second).role y ≡ true }
+        ensures { result ≡ packed (B.Scheme.meaning self.now.second).width x y }
+    {
+        x * (1 << self.second.width()) + y
+    }
+
     /// The code of a role of each part; none where the pair is unsound or a part is no role.
     pub fn code(&self, x: u64, y: u64) -> Option<u64>
         ensures { result ≡ pair_code (A.Scheme.meaning self.now.first) (B.Scheme.meaning self.now.second) x y }
     {
-        if self.sound() && self.first.is_role(x) && self.second.is_role(y) {
-            Some(pack(x, y, self.second.width()))
-        } else {
-            None
-        }
+        let roles = self.sound() && self.first.is_role(x) && self.second.is_role(y);
+        roles.then(|| self.pack(x, y))
     }
 }
 
@@ -71,66 +76,53 @@ impl<A: Scheme, B: Scheme> Scheme for Pair<A, B> {
     }
 
     fn is_role(&self, code: u64) -> bool {
-        if self.sound() {
-            let w = self.second.width();
-            self.first.is_role(upper(code, w)) && self.second.is_role(lower(code, w))
-        } else {
-            false
+        match self.split(code) {
+            Some(c) => self.first.is_role(c.first) && self.second.is_role(c.second),
+            None => false,
         }
     }
 
     fn dominates(&self, a: u64, b: u64) -> bool {
-        if self.sound() {
-            let w = self.second.width();
-            self.first.dominates(upper(a, w), upper(b, w))
-                && self.second.dominates(lower(a, w), lower(b, w))
-        } else {
-            false
+        match (self.split(a), self.split(b)) {
+            (Some(a), Some(b)) => {
+                self.first.dominates(a.first, b.first) && self.second.dominates(a.second, b.second)
+            }
+            _ => false,
         }
     }
 
     fn join(&self, a: u64, b: u64) -> Option<u64> {
-        if self.sound() {
-            let w = self.second.width();
-            let x = self.first.join(upper(a, w), upper(b, w))?;
-            let y = self.second.join(lower(a, w), lower(b, w))?;
-            Some(pack(x, y, w))
-        } else {
-            None
-        }
+        let (a, b) = (self.split(a)?, self.split(b)?);
+        let x = self.first.join(a.first, b.first)?;
+        let y = self.second.join(a.second, b.second)?;
+        Some(self.pack(x, y))
     }
 
     fn meet(&self, a: u64, b: u64) -> Option<u64> {
-        if self.sound() {
-            let w = self.second.width();
-            let x = self.first.meet(upper(a, w), upper(b, w))?;
-            let y = self.second.meet(lower(a, w), lower(b, w))?;
-            Some(pack(x, y, w))
-        } else {
-            None
-        }
+        let (a, b) = (self.split(a)?, self.split(b)?);
+        let x = self.first.meet(a.first, b.first)?;
+        let y = self.second.meet(a.second, b.second)?;
+        Some(self.pack(x, y))
     }
 
     fn remainder(&self, b: u64, a: u64) -> Option<u64> {
-        if self.sound() {
-            let w = self.second.width();
-            let x = self.first.remainder(upper(b, w), upper(a, w))?;
-            let y = self.second.remainder(lower(b, w), lower(a, w))?;
-            Some(pack(x, y, w))
-        } else {
-            None
-        }
+        let (b, a) = (self.split(b)?, self.split(a)?);
+        let x = self.first.remainder(b.first, a.first)?;
+        let y = self.second.remainder(b.second, a.second)?;
+        Some(self.pack(x, y))
     }
 
     fn bottom(&self) -> u64 {
         if self.sound() {
-            pack(
-                self.first.bottom(),
-                self.second.bottom(),
-                self.second.width(),
-            )
+            self.pack(self.first.bottom(), self.second.bottom())
         } else {
             0
         }
+    }
+}
+
+impl<A: fmt::Display, B: fmt::Display> fmt::Display for Pair<A, B> {
+    fn fmt<W: fmt::Write>(&self, f: &mut fmt::Formatter<W>) -> fmt::Result {
+        write!(f, "pair of a {} and a {}", self.first, self.second)
     }
 }

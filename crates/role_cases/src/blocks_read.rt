@@ -18,18 +18,14 @@ fn refusal(bytes: &[u8]) -> u8 {
 
 // Is a block read, and is its scheme sound?
 fn read_sound(bytes: &[u8]) -> Option<bool> {
-    match read_block(bytes) {
-        Ok((block, _)) => Some(block.sound()),
-        Err(_) => None,
-    }
+    let (block, _) = read_block(bytes).ok()?;
+    Some(block.sound())
 }
 
 // How many bytes follow the block.
 fn left(bytes: &[u8]) -> Option<usize> {
-    match read_block(bytes) {
-        Ok((_, rest)) => Some(rest.len()),
-        Err(_) => None,
-    }
+    let (_, rest) = read_block(bytes).ok()?;
+    Some(rest.len())
 }
 
 #[test]

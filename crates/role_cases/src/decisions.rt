@@ -8,9 +8,9 @@ use wording::Spoken;
 // 100 may start, 101 may not start, else the number of the refusal.
 fn outcome(input: &[u8]) -> u8 {
     match report(input).decision {
-        Decision::MayStart => 100,
-        Decision::MayNotStart => 101,
-        Decision::Refused(refusal) => refusal.number(),
+        Ok(Decision::MayStart) => 100,
+        Ok(Decision::MayNotStart) => 101,
+        Err(refusal) => refusal.number(),
     }
 }
 

@@ -25,31 +25,19 @@ impl Scheme for Watch {
     }
 
     fn dominates(&self, a: u64, b: u64) -> bool {
-        self.is_role(a) && self.is_role(b) && a >= b
+        self.are_roles(a, b) && a >= b
     }
 
     fn join(&self, a: u64, b: u64) -> Option<u64> {
-        if self.is_role(a) && self.is_role(b) {
-            Some(a.max(b))
-        } else {
-            None
-        }
+        self.are_roles(a, b).then_some(a.max(b))
     }
 
     fn meet(&self, a: u64, b: u64) -> Option<u64> {
-        if self.is_role(a) && self.is_role(b) {
-            Some(a.min(b))
-        } else {
-            None
-        }
+        self.are_roles(a, b).then_some(a.min(b))
     }
 
     fn remainder(&self, b: u64, a: u64) -> Option<u64> {
-        if self.is_role(b) && self.is_role(a) {
-            Some(if a >= b { 5 } else { b })
-        } else {
-            None
-        }
+        self.are_roles(b, a).then_some(if a >= b { 5 } else { b })
     }
 
     fn bottom(&self) -> u64 {

@@ -1,6 +1,8 @@
-ghost use Rattle.std.specs.Prelude.{◌≡◌};
+ghost use Rattle.std.specs.Prelude.{◌≡◌, ◌&&◌};
 ghost use Rattle.roles.specs.Meaning.{Meaning, Lawful};
 ghost use Rattle.roles.specs.Theorems.{OrderDecides};
+
+use std::fmt;
 
 /// A scheme of roles. Asking it changes nothing.
 pub trait Scheme {
@@ -18,6 +20,13 @@ pub trait Scheme {
     /// Is the code a role?
     fn is_role(&self, code: u64) -> bool
         ensures { result ≡ (meaning self.now).role code };
+
+    /// Are both codes roles?
+    fn are_roles(&self, a: u64, b: u64) -> bool
+        ensures { result ≡ ((meaning self.now).role a && (meaning self.now).role b) }
+    {
+        self.is_role(a) && self.is_role(b)
+    }
 
     /// Does `a` dominate `b`? A code that is no role dominates nothing and is dominated by none.
     fn dominates(&self, a: u64, b: u64) -> bool
@@ -48,6 +57,14 @@ pub trait Scheme {
 pub enum SchemeFault {
     /// The scheme is unsound, so it has no roles.
     Unsound,
+}
+
+impl fmt::Display for SchemeFault {
+    fn fmt<W: fmt::Write>(&self, f: &mut fmt::Formatter<W>) -> fmt::Result {
+        match self {
+            SchemeFault::Unsound => write!(f, "the scheme is not sound"),
+        }
+    }
 }
 
 /// The role set and the order decide every other answer but the width, so what is proved from a meaning is proved from these two.

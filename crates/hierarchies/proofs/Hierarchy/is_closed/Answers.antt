@@ -1,10 +1,11 @@
-use Rattle.std.proofs.Common.{sym}
+use Rattle.std.proofs.Common.{rules, ◌≡◌, true, false, refl, arith}
+use Rattle.std.proofs.lemmas.Iterator.{cases_from_all, YieldsList-from_range}
 use Rattle.hierarchies.specs.Kind.{keeps_row}
-use Rattle.hierarchies.specs.Every.{every_more, every_not}
+use Rattle.hierarchies.specs.Every.{every_from_all}
 use Rattle.hierarchies.proofs.Hierarchy.is_closed.Goals as goal
 
-pub loop-j-preserved : goal.loop-j-preserved
-loop-j-preserved c = every_more c.loop-j.j (keeps_row c.args.self.now.rows c.args.code) c.loop-j.invariant (sym c.if-not-keeps.ensures)
-
-pub returns-then-not-keeps : goal.returns-then-not-keeps
-returns-then-not-keeps c = sym (every_not _ _ c.loop-j.j c.loop-j-test.true (sym c.if-not-keeps.ensures))
+pub returns : goal.returns
+returns c =
+    let n = c.args.self.now.count in
+    let p = keeps_row c.args.self.now.rows c.args.code in
+    every_from_all n p _ (cases_from_all _ _ _ (λ k. p k ≡ true) (λ k. p k ≡ false) c.all.ensures.ran (YieldsList-from_range 0 n n refl (omega arith)) (λ x q k. search rules) (λ x q k. search rules))
