@@ -1,5 +1,5 @@
-use Rattle.std.proofs.Common.{rules, ◌≡◌, ◌≤◌, true, false, refl, sym, ◌∙◌, arith}
-use Rattle.std.proofs.lemmas.Bool.{and_from, and_right, le-leb}
+use Rattle.std.proofs.Common.{rules, ◌≡◌, true, false, refl, arith}
+use Rattle.std.proofs.lemmas.Bool.{and_from, le-leb}
 use Rattle.std.proofs.lemmas.Iterator.{cases_from_all, YieldsList-from_range}
 use Rattle.hierarchies.specs.Kind.{every, row_sound}
 use Rattle.hierarchies.specs.Every.{every_from_all}
