@@ -1,9 +1,20 @@
 //! How far the free variables of each used entry reach.
-ghost use Rattle.std.specs.Prelude.{◌≡◌, ◌≤◌, true, length, take};
-ghost use Rattle.runs.specs.Reach.{Ground, Known, lower, step_of};
+ghost use Rattle.std.specs.Prelude.{◌≡◌, ◌+◌, ◌^◌, ◌<◌, ◌≤◌, true, length, take};
+ghost use Rattle.runs.specs.Reach.{Ground, Known, ground_prop, lower, step_of};
 
 use tables::entry::Entry;
 use tables::operand::{ABSTRACTION, APPLICATION, LET, VALUE, VARIABLE};
+
+/// The used entries of a table, which name lower ones, with their reaches. A turn writes none of them.
+#[derive(Clone, Copy)]
+pub(crate) struct Used<'a> {
+    pub terms: &'a [Entry],
+    pub reach: &'a [u16],
+    ghost ground: { Ground terms.now } by { ground_prop terms.now },
+    ghost known: { Known terms.now reach.now },
+    ghost enough: { length terms.now ≤ length reach.now },
+    ghost few: { length terms.now + 1 < 2 ^ 32 },
+}
 
 /// The reach of entry `i`, where those below it are known.
 pub(crate) fn reach_step(e: Entry, i: usize, reach: &[u16]) -> u16

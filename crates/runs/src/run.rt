@@ -8,8 +8,8 @@ ghost use Rattle.runs.specs.Table.{Live};
 ghost use Rattle.runs.specs.Went.{Went};
 
 use crate::fault::{RunFault, StartFault};
-use crate::find::{find, idle_by};
-use crate::turn::{Turned, ended_by, turn_live};
+use crate::reach::Used;
+use crate::turn::{Moved, turn_live};
 use crate::usable::usable;
 use machine::condition::Condition;
 use roles::refusal::ask_sound;
@@ -146,22 +146,19 @@ impl Run {
         Ok(())
     }
 
-    // Takes what a turn met: goes on, ends, or halts for places; a run that has ended stays.
-    fn take(&mut self, met: Turned)
+    // Takes what a turn met: goes on, or ends or halts for places; a run that has ended stays.
+    fn take(&mut self, met: Result<Moved, Condition>)
         requires { self.old.steps + 1 < 2 ^ 32 }
         ensures { self.new ≡ taken self.old met }
     {
         match (self.condition, met) {
-            (Condition::Going | Condition::TableFull, Turned::Moves { current, used }) => {
+            (Condition::Going | Condition::TableFull, Ok(moved)) => {
                 self.steps += 1;
-                self.current = current;
-                self.used = used;
+                self.current = moved.current;
+                self.used = moved.used;
                 self.condition = Condition::Going;
             }
-            (Condition::Going | Condition::TableFull, Turned::Full) => {
-                self.condition = Condition::TableFull;
-            }
-            (Condition::Going | Condition::TableFull, other) => self.condition = ended_by(other),
+            (Condition::Going | Condition::TableFull, Err(condition)) => self.condition = condition,
             _ => {}
         }
     }
@@ -180,11 +177,18 @@ impl Run {
         for made in 0..budget {
             let met = turn_live(scheme, self.role, terms, reach, self.current, self.used);
             self.take(met);
-            if !met.moved() {
+            if met.is_err() {
                 return made;
             }
         }
-        self.condition = idle_by(find(scheme, self.role, terms, self.used, self.current));
+        let used = Used {
+            terms: &terms[..self.used as usize],
+            reach,
+        };
+        self.condition = used
+            .find(scheme, self.role, self.current)
+            .err()
+            .unwrap_or(Condition::Going);
         budget
     }
 
