@@ -135,15 +135,16 @@ turns_ground m r us c new k G cl q =
     let g = ground_by us (step m r (tree us c)) new k G h q in
     (g.0, g.1, turns_close_lem m r (record { used = us; current = c }) new k cl q)
 
--- a tree is the same in a longer part of a table
+-- a tree is the same in the first part of a table
+pub tree_prefix : (us : List Entry) (m k : ℕ) → m ≤ length us → k < m → tree us k ≡ tree (take m us) k
+tree_prefix us m k h q =
+    let a = length-take-le m us h in
+    ap (λ (x : List Entry). tree x k) (sym (take-append-drop m us)) ∙ trees_stay_lem (take m us) (drop m us) k (omega arith)
+
 pub tree_longer : (es : List Entry) (m n k : ℕ) → m ≤ n → n ≤ length es → k < m → tree (take n es) k ≡ tree (take m es) k
 tree_longer es m n k h l q =
-    let us : List Entry = take n es in
-    let a = length-take-le n es l in
-    let t : take m us ≡ take m es = take-take m n es h in
-    let b = length-take-le m us (omega arith) in
-    ap (λ (x : List Entry). tree x k) (sym (take-append-drop m us))
-    ∙ (trees_stay_lem (take m us) (drop m us) k (omega arith) ∙ ap (λ (x : List Entry). tree x k) t)
+    let b = length-take-le n es l in
+    tree_prefix (take n es) m k (omega arith) q ∙ ap (λ (x : List Entry). tree x k) (take-take m n es h)
 
 -- what was written is the rest of the used entries
 pub take_laid : (es : List Entry) (u : ℕ) (new : List Entry) → u ≤ length es → take (u + length new) (laid es u new) ≡ take u es ++ new
@@ -162,14 +163,14 @@ module _ (m : Meaning) (r : ℕ) (es fs : List Entry) (rs : List ℕ) (u c : ℕ
   pub moved_ground : Ground (take x.used fs)
   moved_ground = subst Ground (sym used_is) after.0
 
-  pub moved_known : Known (take u fs) rs
+  pub moved_more : u ≤ x.used
+  moved_more = omega (arith, T.3)
+
+  pub moved_known : Known (take u (take x.used fs)) rs
   moved_known =
       let l = L.low in
       let P : List Entry → Type 0 = λ y. Known y rs in
-      subst P (sym (ap (take u) T.2 ∙ laid_take es u T.0 u (omega arith) l)) L.known
-
-  pub moved_more : u ≤ x.used
-  moved_more = omega (arith, T.3)
+      subst P (sym (take-take u x.used fs moved_more ∙ (ap (take u) T.2 ∙ laid_take es u T.0 u (omega arith) l))) L.known
 
   pub moved_live : (qs : List ℕ) → length fs ≡ length es → length qs ≡ length rs → Known (take x.used fs) qs → Live fs qs x.used x.current
   moved_live qs same keep K =

@@ -32,11 +32,12 @@ pub(crate) fn reach_step(e: Entry, i: usize, reach: &[u16]) -> u16
 }
 
 /// Fills in the reaches of the entries from `from` on, where those below are known.
-pub(crate) fn fill(terms: &[Entry], from: usize, used: usize, reach: &mut [u16])
-    requires { (from ≤ used) × ((used ≤ length terms.now) × ((used ≤ length reach.old) × ((Ground (take used terms.now)) × (Known (take from terms.now) reach.old)))) }
-    ensures { Known (take used terms.now) reach.new }
+pub(crate) fn fill(terms: &[Entry], from: usize, reach: &mut [u16])
+    requires { (from ≤ length terms.now) × ((length terms.now ≤ length reach.old) × ((Ground terms.now) × (Known (take from terms.now) reach.old))) }
+    ensures { Known terms.now reach.new }
 {
-    for i in from..used {
+    // Stays: a count from `from` on is plainer than `terms.iter().enumerate().skip(from)`.
+    for i in from..terms.len() {
         reach[i] = reach_step(terms[i], i, reach);
     }
 }

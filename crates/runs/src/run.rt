@@ -16,6 +16,7 @@ use roles::refusal::ask_sound;
 use roles::scheme::Scheme;
 use tables::entry::{Counts, Entry};
 use tables::form::form;
+use tables::operand::ask;
 
 /// A run. There is only one of each: it is neither copied nor made but by a start.
 pub struct Run {
@@ -53,11 +54,7 @@ fn ask_start<S: Scheme>(
     ensures { result ≡ start_asked (S.meaning scheme.now) counts types.now terms.now role }
 {
     form(scheme, counts, types, terms)?;
-    if scheme.is_role(role) {
-        Ok(())
-    } else {
-        Err(StartFault::Role { code: role })
-    }
+    ask(scheme.is_role(role), StartFault::Role { code: role })
 }
 
 /// Starts a run of any well-formed job, as a rehearsal: nothing is checked of its types, and nothing is written.
@@ -97,19 +94,15 @@ impl Run {
     pub fn close(self) -> Look
         ensures { result ≡ seen self }
     {
+        let look = self.look();
         let Run {
             role: _,
-            steps,
-            used,
-            current,
-            condition,
+            steps: _,
+            used: _,
+            current: _,
+            condition: _,
         } = self;
-        Look {
-            steps,
-            used,
-            current,
-            condition,
-        }
+        look
     }
 
     // What an advance asks, in order; then the reaches of the used entries are known.
@@ -126,24 +119,27 @@ impl Run {
         ensures below { is_ok result ≡ true → self.now.steps + budget < 2 ^ 32 }
     {
         ask_sound(scheme)?;
-        if !scheme.is_role(self.role) {
-            return Err(RunFault::Role { code: self.role });
-        }
-        if !usable(scheme, terms, self.used, self.current, reach) {
-            return Err(RunFault::Unusable);
-        }
-        if self.condition.ended() {
-            return Err(RunFault::Ended {
+        ask(
+            scheme.is_role(self.role),
+            RunFault::Role { code: self.role },
+        )?;
+        ask(
+            usable(scheme, terms, self.used, self.current, reach),
+            RunFault::Unusable,
+        )?;
+        ask(
+            !self.condition.ended(),
+            RunFault::Ended {
                 condition: self.condition,
-            });
-        }
-        if budget >= (1 << 32) - self.steps as u64 {
-            return Err(RunFault::Budget {
+            },
+        )?;
+        ask(
+            budget < (1 << 32) - self.steps as u64,
+            RunFault::Budget {
                 steps: self.steps,
                 budget,
-            });
-        }
-        Ok(())
+            },
+        )
     }
 
     // Takes what a turn met: goes on, or ends or halts for places; a run that has ended stays.

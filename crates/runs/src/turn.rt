@@ -120,6 +120,6 @@ pub(crate) fn turn_live<S: Scheme>(
     ensures live { LiveAfter terms.new reach.new used current result }
 {
     let moved = turn_at(scheme, role, terms, reach, current, used)?;
-    fill(terms, used as usize, moved.used as usize, reach);
+    fill(&terms[..moved.used as usize], used as usize, reach);
     Ok(moved)
 }
