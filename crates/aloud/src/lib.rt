@@ -1,58 +1,64 @@
 //! A job in lines that two people can read aloud: one entry to a line, with its place and its form in words.
 #![tactic(auto)]
 
+mod base;
 mod refusal;
 mod term_lines;
 mod type_words;
 
-use crate::refusal::{show_block_fault, show_refusal};
-use crate::term_lines::show_term;
-use crate::type_words::show_type;
+use crate::refusal::show_refusal;
+use crate::term_lines::TermAt;
+use crate::type_words::TypeAt;
 use blocks::block::Block;
 use blocks::read::read_block;
 use jobs::reader::read;
 use std::fmt;
 use tables::entry::{Counts, Entry};
 
-const NO_ENTRY: Entry = Entry {
-    tag: 0,
-    first: 0,
-    second: 0,
-    third: 0,
-};
-
 /// A scheme block and an image, to be printed as the job that they hold or as what they are refused with.
 #[derive(Clone, Copy)]
 pub struct Spoken<'a>(pub &'a [u8]);
 
-// A line for each type.
-fn show_types<W: fmt::Write>(
-    types: &[Entry],
-    count: u32,
-    f: &mut fmt::Formatter<W>,
-) -> fmt::Result {
-    for i in 0..count {
-        write!(f, "place {i}: type ")?;
-        show_type(types, i as usize, f)?;
-        writeln!(f, "")?;
-    }
-    Ok(())
+// A job whose entries stand in the first places of two tables.
+#[derive(Clone, Copy)]
+struct Job<'a> {
+    counts: Counts,
+    types: &'a [Entry],
+    terms: &'a [Entry],
 }
 
-// The counts, the types, and the terms from the last one down.
-fn show_job<W: fmt::Write>(
-    counts: Counts,
-    types: &[Entry],
-    terms: &[Entry],
-    f: &mut fmt::Formatter<W>,
-) -> fmt::Result {
-    let Counts { types: t, terms: n } = counts;
-    writeln!(f, "job: types {t}, terms {n}")?;
-    show_types(types, t, f)?;
-    if n == 0 {
-        return Ok(());
+impl Job<'_> {
+    // A line for each type.
+    fn show_types<W: fmt::Write>(&self, f: &mut fmt::Formatter<W>) -> fmt::Result {
+        for place in 0..self.counts.types as usize {
+            let written = TypeAt {
+                types: self.types,
+                place,
+            };
+            writeln!(f, "place {place}: type {written}")?;
+        }
+        Ok(())
     }
-    show_term(types, terms, t, n - 1, 0, f)
+}
+
+impl fmt::Display for Job<'_> {
+    // The counts, the types, and the terms from the last one down.
+    fn fmt<W: fmt::Write>(&self, f: &mut fmt::Formatter<W>) -> fmt::Result {
+        let Counts { types: t, terms: n } = self.counts;
+        writeln!(f, "job: types {t}, terms {n}")?;
+        self.show_types(f)?;
+        if n == 0 {
+            return Ok(());
+        }
+        let last = TermAt {
+            types: self.types,
+            terms: self.terms,
+            t,
+            at: n - 1,
+            level: 0,
+        };
+        write!(f, "{last}")
+    }
 }
 
 // The job in an image, or its refusal.
@@ -61,11 +67,18 @@ fn show_image<W: fmt::Write>(
     image: &[u8],
     f: &mut fmt::Formatter<W>,
 ) -> fmt::Result {
-    let mut types = [NO_ENTRY; 1536];
-    let mut terms = [NO_ENTRY; 1024];
+    let mut types = [Entry::default(); 1536];
+    let mut terms = [Entry::default(); 1024];
     match read(scheme, image, &mut types, &mut terms) {
-        Ok(counts) => show_job(counts, &types, &terms, f),
-        Err(fault) => show_refusal(fault, f),
+        Ok(counts) => {
+            let job = Job {
+                counts,
+                types: &types,
+                terms: &terms,
+            };
+            write!(f, "{job}")
+        }
+        Err(fault) => show_refusal(&fault, &fault, f),
     }
 }
 
@@ -73,7 +86,11 @@ impl fmt::Display for Spoken<'_> {
     fn fmt<W: fmt::Write>(&self, f: &mut fmt::Formatter<W>) -> fmt::Result {
         match read_block(self.0) {
             Ok((block, image)) => show_image(&block, image, f),
-            Err(fault) => show_block_fault(fault, f),
+            Err(fault) => show_refusal(
+                &fault,
+                &"the scheme block is not whole or of no known kind",
+                f,
+            ),
         }
     }
 }

@@ -1,8 +1,8 @@
 -- The pairs that are left to compare.
-use Rattle.std.proofs.Common.{◌≡◌, ℕ, zero, suc, ◌+◌, ◌<◌, ◌≤◌, Bool, true, false, cond, not, ◌&&◌, eqb, ◌⊎◌, List, length, get_or, set, sym, refl, ap, ◌∙◌, ap₂, subst₂, inl, inr, add-one, arith}
+use Rattle.std.proofs.Common.{◌≡◌, ℕ, ◌+◌, ◌<◌, ◌≤◌, Bool, true, false, cond, not, ◌&&◌, eqb, ◌⊎◌, List, [], ◌∷◌, ◌++◌, length, get_or, Some, subst, subst₂, sym, refl, ap, ◌∙◌, ap₂, inl, inr, arith}
 use mathlib.Core.Bool.{false≢true}
 use Rattle.std.proofs.lemmas.Bool.{cases_eq, ne_eqb}
-use Rattle.std.proofs.lemmas.List.{get_or-set_same, get_or-set_other, length-set}
+use Rattle.std.specs.Option.{option_to_list}
 use Rattle.roles.specs.Meaning.{Meaning}
 use Rattle.calculus.specs.Syntax.{Ty, base, function, guarded, computation, kind_number}
 use Rattle.calculus.specs.Subtyping.{System}
@@ -11,9 +11,11 @@ use Rattle.tables.specs.declared.entry.Entry.{Entry}
 use Rattle.tables.specs.Entries.{no_entry}
 use Rattle.trees.specs.Trees.{kind, type_by, type_of}
 use Rattle.walks.specs.Places.{Low, Grounded}
+use Rattle.walks.specs.Rules.{below}
 use Rattle.walks.proofs.TypeTrees.{Four, is1, is2, is3, is4, tag_of, node_1, node_2, node_3, node_4, tree_is}
 use Rattle.checks.specs.declared.compare.Pair.{Pair}
-use Rattle.checks.specs.Compare.{alike_of}
+use Rattle.checks.specs.Compare.{alike_of, operands_of}
+use Rattle.checks.proofs.Stacks.{onto, stack, pushed, popped}
 
 -- a number is kept by the kind that it stands for
 kind_kept : (k : ℕ) → k ≤ 2 → kind_number (kind k) ≡ k
@@ -58,16 +60,13 @@ related_node m α d j k x y w v l r = go (tag_of m.role j x l) (tag_of m.role k 
     go (is4 h) (is3 i) = rw (h, i)
     go (is4 h) (is4 i) = rw (h, i)
 
-abbrev pub no_pair : Pair
-no_pair = record { left = 0; right = 0; forward = false }
-
 abbrev pub relates : Meaning → System → List Entry → Pair → Bool
 relates m α es p = related m α p.forward (type_of es p.left) (type_of es p.right)
 
--- whether the pairs below `top` are all in order
-abbrev pub pend : Meaning → System → List Entry → List Pair → ℕ → Bool
-pend m α es ps zero = true
-pend m α es ps (suc t) = relates m α es (get_or ps t no_pair) && pend m α es ps t
+-- whether all pairs of a stack are in order
+abbrev pub pend : Meaning → System → List Entry → List Pair → Bool
+pend m α es [] = true
+pend m α es (p ∷ ps) = relates m α es p && pend m α es ps
 
 unfoldable pub size : Ty → ℕ
 size (base k) = 1
@@ -76,234 +75,153 @@ size (guarded a t) = 1 + size t
 size (computation a t) = 1 + size t
 
 -- the turns that they take
-abbrev pub cost : List Entry → List Pair → ℕ → ℕ
-cost es ps zero = 0
-cost es ps (suc t) = size (type_of es (get_or ps t no_pair).left) + cost es ps t
+abbrev pub cost : List Entry → List Pair → ℕ
+cost es [] = 0
+cost es (p ∷ ps) = size (type_of es p.left) + cost es ps
 
--- each pair lies lower than the one before it, and inside the table
-pub record Fits (used a : ℕ) (ps : List Pair) (top : ℕ) : Type 0 where
-  pub long : length ps ≡ 2048
-  pub least : top ≤ a + 1
-  pub left : (j : ℕ) → j < top → (get_or ps j no_pair).left + j ≤ a
-  pub right : (j : ℕ) → j < top → (get_or ps j no_pair).right < used
-
-pend_same : (m : Meaning) (α : System) (es : List Entry) (ps qs : List Pair) (t : ℕ) → ((k : ℕ) → k < t → get_or ps k no_pair ≡ get_or qs k no_pair) → pend m α es ps t ≡ pend m α es qs t
-pend_same m α es ps qs zero p = refl
-pend_same m α es ps qs (suc t) p =
-    ap₂ (λ x y. relates m α es x && y) (p t (omega arith)) (pend_same m α es ps qs t (λ k h. p k (omega arith)))
-
-cost_same : (es : List Entry) (ps qs : List Pair) (t : ℕ) → ((k : ℕ) → k < t → get_or ps k no_pair ≡ get_or qs k no_pair) → cost es ps t ≡ cost es qs t
-cost_same es ps qs zero p = refl
-cost_same es ps qs (suc t) p =
-    ap₂ (λ (x : Pair) (y : ℕ). size (type_of es x.left) + y) (p t (omega arith)) (cost_same es ps qs t (λ k h. p k (omega arith)))
+-- each pair lies lower than the one below it in the stack, and inside the table
+abbrev pub Fits : ℕ → ℕ → List Pair → Type 0
+Fits used a [] = Unit {0}
+Fits used a (p ∷ ps) = (p.left + length ps ≤ a) × (p.right < used) × Fits used a ps
 
 and_assoc : (a b c : Bool) → (a && b) && c ≡ a && (b && c)
 and_assoc true b c = refl
 and_assoc false b c = refl
 
--- the pair at t in place of the one there
-abbrev pub Swapped : List Pair → ℕ → Pair → List Pair
-Swapped ps t q = set ps t q
-
-module _ (ps : List Pair) (t : ℕ) (q : Pair) (l : t < length ps) where
-  at_same : get_or (set ps t q) t no_pair ≡ q
-  at_same = get_or-set_same ps t q no_pair l
-
-  at_below : (k : ℕ) → k < t → get_or (set ps t q) k no_pair ≡ get_or ps k no_pair
-  at_below k h = get_or-set_other ps t k q no_pair (omega arith)
-
-pend_one : (m : Meaning) (α : System) (es : List Entry) (ps : List Pair) (t : ℕ) (q : Pair) → t < length ps → pend m α es (set ps t q) (suc t) ≡ relates m α es q && pend m α es ps t
-pend_one m α es ps t q l =
-    ap₂ (λ x y. relates m α es x && y) (at_same ps t q l) (pend_same m α es (set ps t q) ps t (at_below ps t q l))
-
-cost_one : (es : List Entry) (ps : List Pair) (t : ℕ) (q : Pair) → t < length ps → cost es (set ps t q) (suc t) ≡ size (type_of es q.left) + cost es ps t
-cost_one es ps t q l =
-    ap₂ (λ (x : Pair) (y : ℕ). size (type_of es x.left) + y) (at_same ps t q l) (cost_same es (set ps t q) ps t (at_below ps t q l))
-
 -- what is known of the pair on top
-module _ (m : Meaning) (α : System) (es : List Entry) (used a : ℕ) (ps : List Pair) (top t : ℕ) (e : top ≡ suc t) (f : Fits used a ps top) (au : a < used) (um : used ≤ 2048) (g : Grounded m.role es used) where
-  abbrev pub P : Pair
-  P = get_or ps t no_pair
-
+module _ (m : Meaning) (α : System) (es : List Entry) (used a : ℕ) (P : Pair) (ps : List Pair) (f : Fits used a (P ∷ ps)) (au : a < used) (um : used ≤ 2048) (g : Grounded m.role es used) where
   abbrev pub X : Entry
   X = get_or es P.left no_entry
 
   abbrev pub Y : Entry
   Y = get_or es P.right no_entry
 
+  abbrev pub next : List Pair
+  next = onto ps (operands_of P.forward X Y)
+
   left_low : P.left < used
-  left_low = omega (arith, f.left t (omega arith))
+  left_low = omega (arith, f.0)
 
   x_low : Low m.role P.left X
   x_low = g P.left left_low
 
   y_low : Low m.role P.right Y
-  y_low = g P.right (f.right t (omega arith))
+  y_low = g P.right f.1
+
+  x_tag : Four X.tag
+  x_tag = tag_of m.role P.left X x_low
 
   top_is : relates m α es P ≡ alike_of m α P.forward X Y && rest_of m α P.forward X Y (type_of es) (type_of es)
   top_is =
-      ap₂ (related m α P.forward) (tree_is m.role es used P.left g left_low) (tree_is m.role es used P.right g (f.right t (omega arith)))
+      ap₂ (related m α P.forward) (tree_is m.role es used P.left g left_low) (tree_is m.role es used P.right g f.1)
       ∙ related_node m α P.forward P.left P.right X Y (type_of es) (type_of es) x_low y_low
 
-  pend_is : pend m α es ps top ≡ relates m α es P && pend m α es ps t
-  pend_is = ap (pend m α es ps) e
-
-  cost_is : cost es ps top ≡ size (type_of es P.left) + cost es ps t
-  cost_is = ap (cost es ps) e
-
   -- they are not alike
-  pub stop : alike_of m α P.forward X Y ≡ false → pend m α es ps top ≡ false
-  stop h =
-      pend_is ∙ ap (λ b. b && pend m α es ps t) (top_is ∙ ap (λ b. b && rest_of m α P.forward X Y (type_of es) (type_of es)) h)
+  stop : alike_of m α P.forward X Y ≡ false → pend m α es (P ∷ ps) ≡ false
+  stop h = ap (λ b. b && pend m α es ps) (top_is ∙ ap (λ b. b && rest_of m α P.forward X Y (type_of es) (type_of es)) h)
 
-  like : alike_of m α P.forward X Y ≡ true → pend m α es ps top ≡ rest_of m α P.forward X Y (type_of es) (type_of es) && pend m α es ps t
-  like h =
-      pend_is ∙ ap (λ b. b && pend m α es ps t) (top_is ∙ ap (λ b. b && rest_of m α P.forward X Y (type_of es) (type_of es)) h)
-
-  -- base types
-  pub pop_pend : alike_of m α P.forward X Y ≡ true → X.tag ≡ 1 → pend m α es ps t ≡ pend m α es ps top
-  pop_pend h i = sym (like h ∙ ap (λ b. b && pend m α es ps t) (rest_1 i))
+  -- they are alike: what they leave to compare is as well in order
+  next_pend : alike_of m α P.forward X Y ≡ true → pend m α es next ≡ pend m α es (P ∷ ps)
+  next_pend h =
+      sym (ap (λ b. b && pend m α es ps) (top_is ∙ ap (λ b. b && rest_of m α P.forward X Y (type_of es) (type_of es)) h) ∙ rest x_tag)
     where
-      rest_1 : X.tag ≡ 1 → rest_of m α P.forward X Y (type_of es) (type_of es) ≡ true
-      rest_1 i = rw i
+      rest : Four X.tag → rest_of m α P.forward X Y (type_of es) (type_of es) && pend m α es ps ≡ pend m α es next
+      rest (is1 i) = rw i refl
+      rest (is2 i) = rw i (and_assoc (related m α (not P.forward) (type_of es X.first) (type_of es Y.first)) (related m α P.forward (type_of es X.second) (type_of es Y.second)) (pend m α es ps))
+      rest (is3 i) = rw i refl
+      rest (is4 i) = rw i refl
 
-  pub pop_fits : Fits used a ps t
-  pop_fits = record { long = f.long; least = omega (arith, f.least); left = λ j h. f.left j (omega arith); right = λ j h. f.right j (omega arith) }
-
-  pub pop_cost : X.tag ≡ 1 → cost es ps t < cost es ps top
+  -- it takes fewer turns
+  next_cost : cost es next < cost es (P ∷ ps)
   unfolding size
-  pop_cost i =
-      let s : size (type_of es P.left) ≡ 1 = ap size (tree_is m.role es used P.left g left_low ∙ node_1 X (type_of es) i) in
-      let c = cost_is in
-      omega arith
-
-  room : t < length ps
-  room = omega (arith, f.long, f.left t (omega arith), f.least)
-
-  abbrev pub inner : Pair
-  inner = record { left = X.first; right = Y.first; forward = P.forward }
-
-  -- one operand
-  pub swap_pend : alike_of m α P.forward X Y ≡ true → (X.tag ≡ 1 → ⊥) → (X.tag ≡ 2 → ⊥) → pend m α es (set ps t inner) top ≡ pend m α es ps top
-  swap_pend h n o =
-      ap (pend m α es (set ps t inner)) e
-      ∙ (pend_one m α es ps t inner room
-      ∙ sym (like h ∙ ap (λ b. b && pend m α es ps t) (rest_3 (tag_of m.role P.left X x_low))))
+  next_cost = go x_tag
     where
-      rest_3 : Four X.tag → rest_of m α P.forward X Y (type_of es) (type_of es) ≡ relates m α es inner
-      rest_3 (is1 i) = absurd (n i)
-      rest_3 (is2 i) = absurd (o i)
-      rest_3 (is3 i) = rw i
-      rest_3 (is4 i) = rw i
+      tree : type_of es P.left ≡ type_by X (type_of es)
+      tree = tree_is m.role es used P.left g left_low
 
-  -- a pair put in the place of the one on top, or above it
-  at_most : (qs : List Pair) (q : Pair) (n : ℕ) → n < length qs → ((j : ℕ) → j < n → (get_or qs j no_pair).left + j ≤ a) → ((j : ℕ) → j < n → (get_or qs j no_pair).right < used) → q.left + n ≤ a → q.right < used → (j : ℕ) → j < suc n → ((get_or (set qs n q) j no_pair).left + j ≤ a) × ((get_or (set qs n q) j no_pair).right < used)
-  at_most qs q n l p r h i j k = go (cases_eq j n)
+      go : Four X.tag → cost es next < size (type_of es P.left) + cost es ps
+      go (is1 i) = let s : size (type_of es P.left) ≡ 1 = ap size (tree ∙ node_1 X (type_of es) i) in rw i (omega arith)
+      go (is2 i) = let s : size (type_of es P.left) ≡ 1 + (size (type_of es X.first) + size (type_of es X.second)) = ap size (tree ∙ node_2 X (type_of es) i) in rw i (omega arith)
+      go (is3 i) = let s : size (type_of es P.left) ≡ 1 + size (type_of es X.first) = ap size (tree ∙ node_3 X (type_of es) i) in rw i (omega arith)
+      go (is4 i) = let s : size (type_of es P.left) ≡ 1 + size (type_of es X.first) = ap size (tree ∙ node_4 X (type_of es) i) in rw i (omega arith)
+
+  -- there is room for it
+  next_room : length ps + length (operands_of P.forward X Y) ≤ 2048
+  next_room = go x_tag
     where
-      go : (j ≡ n) ⊎ (j ≡ n → ⊥) → ((get_or (set qs n q) j no_pair).left + j ≤ a) × ((get_or (set qs n q) j no_pair).right < used)
-      go (inl z) = rw (z, at_same qs n q l) (h, i)
-      go (inr z) =
-          let b : j < n = omega arith in
-          rw (at_below qs n q l j b) (p j b, r j b)
-
-  pub swap_fits : (q : Pair) → q.left < P.left → q.right < used → Fits used a (set ps t q) top
-  swap_fits q h i =
-      let b = at_most ps q t room (λ j l. f.left j (omega arith)) (λ j l. f.right j (omega arith)) (omega (arith, f.left t (omega arith))) i in
-      record {
-        long = length-set ps t q ∙ f.long;
-        least = f.least;
-        left = λ j l. (b j (omega arith)).0;
-        right = λ j l. (b j (omega arith)).1;
-      }
-
-  pub inner_low : (X.tag ≡ 1 → ⊥) → X.first < P.left
-  inner_low n = x_low.one (omega (arith, x_low.some))
-
-  pub inner_right : X.tag ≡ Y.tag → (X.tag ≡ 1 → ⊥) → Y.first < used
-  inner_right s n = omega (arith, y_low.one (omega (arith, x_low.some)), f.right t (omega arith))
-
-  pub swap_cost : (X.tag ≡ 1 → ⊥) → (X.tag ≡ 2 → ⊥) → cost es (set ps t inner) top < cost es ps top
-  unfolding size
-  swap_cost n o =
-      let s = size_3 (tag_of m.role P.left X x_low) in
-      let c = cost_is in
-      let d = ap (cost es (set ps t inner)) e ∙ cost_one es ps t inner room in
-      omega arith
-    where
-      size_3 : Four X.tag → size (type_of es P.left) ≡ 1 + size (type_of es X.first)
-      size_3 (is1 i) = absurd (n i)
-      size_3 (is2 i) = absurd (o i)
-      size_3 (is3 i) = ap size (tree_is m.role es used P.left g left_low ∙ node_3 X (type_of es) i)
-      size_3 (is4 i) = ap size (tree_is m.role es used P.left g left_low ∙ node_4 X (type_of es) i)
-
-  abbrev pub result : Pair
-  result = record { left = X.second; right = Y.second; forward = P.forward }
-
-  abbrev pub argument : Pair
-  argument = record { left = X.first; right = Y.first; forward = not P.forward }
-
-  swapped_long : suc t < 2048 → suc t < length (set ps t result)
-  swapped_long h = rw (length-set ps t result, f.long) h
-
-  pub push_pend : alike_of m α P.forward X Y ≡ true → X.tag ≡ 2 → suc t < 2048 → pend m α es (set (set ps t result) (suc t) argument) (suc (suc t)) ≡ pend m α es ps top
-  push_pend h i l =
-      pend_one m α es (set ps t result) (suc t) argument (swapped_long l)
-      ∙ (ap (λ b. relates m α es argument && b) (pend_one m α es ps t result room)
-      ∙ (sym (and_assoc (relates m α es argument) (relates m α es result) (pend m α es ps t))
-      ∙ sym (like h ∙ ap (λ b. b && pend m α es ps t) rest_2)))
-    where
-      rest_2 : rest_of m α P.forward X Y (type_of es) (type_of es) ≡ relates m α es argument && relates m α es result
-      rest_2 = rw i
-
-  pub push_fits : X.tag ≡ Y.tag → X.tag ≡ 2 → suc t < 2048 → Fits used a (set (set ps t result) (suc t) argument) (suc (suc t))
-  push_fits s i l =
-      let lx : X.second < P.left = x_low.two i in
-      let ly : Y.second < P.right = y_low.two (omega arith) in
-      let fx : X.first < P.left = inner_low (omega arith) in
-      let fy : Y.first < used = inner_right s (omega arith) in
-      let pr = f.right t (omega arith) in
-      let pl = f.left t (omega arith) in
-      let b = swap_fits result lx (omega arith) in
-      let b2 = at_most (set ps t result) argument (suc t) (swapped_long l) (λ j l. b.left j (omega arith)) (λ j l. b.right j (omega arith)) (omega arith) fy in
-      record {
-        long = length-set (set ps t result) (suc t) argument ∙ b.long;
-        least = omega arith;
-        left = λ j l. (b2 j l).0;
-        right = λ j l. (b2 j l).1;
-      }
-
-  pub push_cost : X.tag ≡ 2 → suc t < 2048 → cost es (set (set ps t result) (suc t) argument) (suc (suc t)) < cost es ps top
-  unfolding size
-  push_cost i l =
-      let s : size (type_of es P.left) ≡ 1 + (size (type_of es X.first) + size (type_of es X.second)) = ap size (tree_is m.role es used P.left g left_low ∙ node_2 X (type_of es) i) in
-      let c = cost_is in
-      let d = cost_one es (set ps t result) (suc t) argument (swapped_long l) in
-      let k = cost_one es ps t result room in
-      omega arith
+      go : Four X.tag → length ps + length (operands_of P.forward X Y) ≤ 2048
+      go (is1 i) = rw i (omega (arith, f.0))
+      go (is2 i) = let l = x_low.one (omega arith) in rw i (omega (arith, f.0))
+      go (is3 i) = rw i (omega (arith, f.0))
+      go (is4 i) = rw i (omega (arith, f.0))
 
   -- equal tags, where they are alike
-  pub tags : alike_of m α P.forward X Y ≡ true → X.tag ≡ Y.tag
+  tags : alike_of m α P.forward X Y ≡ true → X.tag ≡ Y.tag
   tags h = go (cases_eq X.tag Y.tag)
     where
       go : (X.tag ≡ Y.tag) ⊎ (X.tag ≡ Y.tag → ⊥) → X.tag ≡ Y.tag
       go (inl z) = z
       go (inr z) = let b = ne_eqb X.tag Y.tag z in absurd (false≢true (rw b at h))
 
-  -- a function's argument stands below a place that is there
-  pub deep : X.tag ≡ 2 → suc t < 2048
-  deep i = let fx : X.first < P.left = inner_low (omega arith) in omega (arith, f.left t (omega arith))
+  next_fits : alike_of m α P.forward X Y ≡ true → Fits used a next
+  next_fits h = go x_tag
+    where
+      s : X.tag ≡ Y.tag
+      s = tags h
 
-  abbrev pub pushed : List Pair
-  pushed = set (set ps t result) top argument
+      first_x : 2 ≤ X.tag → X.first < P.left
+      first_x l = x_low.one l
 
-  pub pushed_pend : alike_of m α P.forward X Y ≡ true → X.tag ≡ 2 → pend m α es pushed (top + 1) ≡ pend m α es ps top
-  pushed_pend h i =
-      ap₂ (λ n k. pend m α es (set (set ps t result) n argument) k) e (add-one top ∙ ap suc e) ∙ push_pend h i (deep i)
+      first_y : 2 ≤ X.tag → Y.first < used
+      first_y l = omega (arith, y_low.one (omega (arith, s)), f.1)
 
-  pub pushed_fits : alike_of m α P.forward X Y ≡ true → X.tag ≡ 2 → Fits used a pushed (top + 1)
-  pushed_fits h i =
-      subst₂ (λ n k. Fits used a (set (set ps t result) n argument) k) (sym e) (sym (add-one top ∙ ap suc e)) (push_fits (tags h) i (deep i))
+      inner : 2 ≤ X.tag → (X.first + length ps ≤ a) × (Y.first < used) × Fits used a ps
+      inner l = (omega (arith, f.0, first_x l), first_y l, f.2)
 
-  pub pushed_cost : X.tag ≡ 2 → cost es pushed (top + 1) < cost es ps top
-  pushed_cost i =
-      subst₂ (λ n k. cost es (set (set ps t result) n argument) k < cost es ps top) (sym e) (sym (add-one top ∙ ap suc e)) (push_cost i (deep i))
+      go : Four X.tag → Fits used a next
+      go (is1 i) = rw i f.2
+      go (is2 i) = rw i (omega (arith, f.0, first_x (omega arith)), first_y (omega arith), (omega (arith, f.0, x_low.two i), omega (arith, y_low.two (omega (arith, s)), f.1), f.2))
+      go (is3 i) = rw i (inner (omega arith))
+      go (is4 i) = rw i (inner (omega arith))
+
+-- a stack that is in order exactly if a is below b
+pub record Leads (m : Meaning) (α : System) (es : List Entry) (used a b : ℕ) (ps : List Pair) : Type 0 where
+  pub fits : Fits used a ps
+  pub leads : pend m α es ps ≡ below m α es a b
+
+pub begins : (m : Meaning) (α : System) (es : List Entry) (used a b : ℕ) (xs zs : List Pair) → b < used → xs ≡ [] → zs ≡ xs ++ record { left = a; right = b; forward = true } ∷ [] → Leads m α es used a b (stack zs)
+begins m α es used a b xs zs bu e q =
+    subst (Leads m α es used a b) (sym (ap stack (q ∙ ap (λ z. z ++ P ∷ []) e)))
+    (record { fits = (omega arith, bu, tt); leads = sym (and_true (relates m α es P)) })
+  where
+    P : Pair
+    P = record { left = a; right = b; forward = true }
+
+pub popped_leads : (m : Meaning) (α : System) (es : List Entry) (used a b : ℕ) (P : Pair) (xs zs : List Pair) → zs ≡ xs ++ option_to_list (Some P) → Leads m α es used a b (stack zs) → Leads m α es used a b (P ∷ stack xs)
+popped_leads m α es used a b P xs zs q w = subst (Leads m α es used a b) (popped P xs zs q) w
+
+module _ {m : Meaning} {α : System} {es : List Entry} {used a b : ℕ} {P : Pair} {ps : List Pair} (au : a < used) (um : used ≤ 2048) (g : Grounded m.role es used) (w : Leads m α es used a b (P ∷ ps)) where
+  pub left_there : P.left < used
+  left_there = left_low m α es used a P ps w.fits au um g
+
+  pub right_there : P.right < used
+  right_there = w.fits.1
+
+  pub apart : false ≡ alike_of m α P.forward (get_or es P.left no_entry) (get_or es P.right no_entry) → false ≡ below m α es a b
+  apart h = sym (stop m α es used a P ps w.fits au um g (sym h)) ∙ w.leads
+
+  abbrev more : List Pair
+  more = operands_of P.forward (get_or es P.left no_entry) (get_or es P.right no_entry)
+
+  pub room : (n : ℕ) → length ps ≡ n → n + length more ≤ 2048
+  room n q = subst (λ (k : ℕ). k + length more ≤ 2048) q (next_room m α es used a P ps w.fits au um g)
+
+  pub goes_on : true ≡ alike_of m α P.forward (get_or es P.left no_entry) (get_or es P.right no_entry) → (xs zs : List Pair) → ps ≡ stack xs → zs ≡ xs ++ more → Leads m α es used a b (stack zs)
+  goes_on h xs zs o q =
+      subst (Leads m α es used a b) (sym (pushed xs more zs q ∙ ap (λ z. onto z more) (sym o)))
+      (record { fits = next_fits m α es used a P ps w.fits au um g (sym h); leads = next_pend m α es used a P ps w.fits au um g (sym h) ∙ w.leads })
+
+  pub shorter : (xs zs ws : List Pair) → ps ≡ stack xs → zs ≡ xs ++ more → stack ws ≡ P ∷ ps → cost es (stack zs) < cost es (stack ws)
+  shorter xs zs ws o q r =
+      subst₂ (λ (a b : List Pair). cost es a < cost es b) (sym (pushed xs more zs q ∙ ap (λ z. onto z more) (sym o))) (sym r)
+      (next_cost m α es used a P ps w.fits au um g)

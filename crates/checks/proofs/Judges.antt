@@ -5,23 +5,21 @@ use Rattle.calculus.specs.Subtyping.{System, sufficient, necessary}
 use Rattle.tables.specs.declared.entry.Entry.{Entry}
 use Rattle.tables.specs.Entries.{at, names, role_tag}
 use Rattle.trees.proofs.ByTag.{by_term_tag}
-use Rattle.walks.specs.declared.finding.Finding.{Finding}
-use Rattle.walks.specs.declared.finding.Finding.TheVariants.{Known, New}
-use Rattle.walks.specs.Rules.{base_type, function_type, guarded_type, computation_type, claim_of, applied, fixed, checked, joined, raised, restricted}
+use Rattle.walks.specs.Rules.{Judged, known, fresh, base_type, function_type, guarded_type, computation_type, claim_of, applied, fixed, checked, joined, raised, restricted}
 use Rattle.walks.proofs.Goods.{Good, low_base, low_function, low_guarded, low_computation, join_there, remainder_there, type_code, good_applied, good_fixed, good_checked, good_joined, good_raised, good_restricted}
 use Rattle.walks.proofs.Unfolding.{tagged}
 use Rattle.checks.specs.Judge.{judge_of, Ready}
 
 module _ (m : Meaning) (α : System) (p : ℕ) (T : List Entry) (e : Entry) (f x b : ℕ) where
-  pub judge_16 : e.tag ≡ 16 → judge_of m α p T e f x b ≡ New (base_type e.first)
+  pub judge_16 : e.tag ≡ 16 → judge_of m α p T e f x b ≡ fresh (base_type e.first)
   unfolding judge_of
   judge_16 h = rw h
 
-  pub judge_17 : e.tag ≡ 17 → judge_of m α p T e f x b ≡ Known b
+  pub judge_17 : e.tag ≡ 17 → judge_of m α p T e f x b ≡ known b
   unfolding judge_of
   judge_17 h = rw h
 
-  pub judge_18 : e.tag ≡ 18 → judge_of m α p T e f x b ≡ New (function_type (claim_of α e) x)
+  pub judge_18 : e.tag ≡ 18 → judge_of m α p T e f x b ≡ fresh (function_type (claim_of α e) x)
   unfolding judge_of
   judge_18 h = rw h
 
@@ -33,7 +31,7 @@ module _ (m : Meaning) (α : System) (p : ℕ) (T : List Entry) (e : Entry) (f x
   unfolding judge_of
   judge_20 h = rw h
 
-  pub judge_21 : e.tag ≡ 21 → judge_of m α p T e f x b ≡ New (guarded_type e.third x)
+  pub judge_21 : e.tag ≡ 21 → judge_of m α p T e f x b ≡ fresh (guarded_type e.third x)
   unfolding judge_of
   judge_21 h = rw h
 
@@ -41,7 +39,7 @@ module _ (m : Meaning) (α : System) (p : ℕ) (T : List Entry) (e : Entry) (f x
   unfolding judge_of
   judge_22 h = rw h
 
-  pub judge_23 : e.tag ≡ 23 → judge_of m α p T e f x b ≡ New (computation_type m.bottom x)
+  pub judge_23 : e.tag ≡ 23 → judge_of m α p T e f x b ≡ fresh (computation_type m.bottom x)
   unfolding judge_of
   judge_23 h = rw h
 
@@ -79,7 +77,7 @@ module _ (m : Meaning) (L : Lawful m) (α : System) (p : ℕ) (T : List Entry) (
   raise_there h z = remainder_there m L _ _ (type_code m L α p T u r.ground x (one_of 25 h (omega arith)) z) (code_of 25 h refl)
 
   module _ (b : ℕ) (bl : e.tag ≡ 17 → b < u) where
-    by : (j : Finding) → judge_of m α p T e f x b ≡ j → Good m.role u j → Good m.role u (judge_of m α p T e f x b)
+    by : (j : Judged) → judge_of m α p T e f x b ≡ j → Good m.role u j → Good m.role u (judge_of m α p T e f x b)
     by j q h = subst (Good m.role u) (sym q) h
 
     abbrev tag_is : {d : Entry} → d ≡ e → e.tag ≡ d.tag

@@ -1,3 +1,4 @@
+pub mod Stacks
 pub mod Compares
 pub mod Judges
 pub mod Envs

@@ -1,27 +1,23 @@
 -- A walk by a stack of frames: what the frames leave to do.
-use Rattle.std.proofs.Common.{◌≡◌, ℕ, zero, suc, ◌+◌, ◌-◌, ◌<◌, ◌≤◌, true, false, cond, List, ◌∷◌, length, get_or, set, refl, ap, ◌∙◌, ap₂, arith}
-use Rattle.std.proofs.lemmas.List.{get_or-set_same, get_or-set_other, length-set}
+use Rattle.std.proofs.Common.{◌≡◌, ℕ, zero, suc, ◌+◌, ◌-◌, ◌<◌, ◌≤◌, true, false, cond, List, [], ◌∷◌, refl, ap, ◌∙◌, arith}
 use Rattle.roles.specs.Meaning.{Meaning}
 use Rattle.calculus.specs.Subtyping.{System}
 use Rattle.tables.specs.declared.entry.Entry.{Entry}
-use Rattle.tables.specs.Entries.{at, names, term_tag}
+use Rattle.tables.specs.Entries.{at, binds, names, operand_of, term_tag}
 use Rattle.trees.proofs.ByTag.{by_term_tag}
 use Rattle.walks.specs.declared.fault.TypingFault.{TypingFault}
 use Rattle.walks.specs.declared.fault.TypingFault.TheVariants.{NoComputation}
-use Rattle.walks.specs.Places.{operand_of, Rooted}
+use Rattle.walks.specs.Places.{Rooted}
 use Rattle.walks.specs.Walk.{Walked, stopped, Walker, and_then, settled, walk_by, walk_of}
 use Rattle.walks.proofs.Sums.{sum_rest, sum_of}
 use Rattle.walks.proofs.Unfolding.{tagged, walk_unfold}
 use Rattle.checks.specs.declared.walk.Frame.{Frame}
-use Rattle.checks.specs.Frames.{enters_of, binds_of, binder_of, env}
+use Rattle.checks.specs.Frames.{enters_of, binder_of, env}
 use Rattle.checks.specs.Judge.{bound_of, judge_of}
-
-abbrev pub no_frame : Frame
-no_frame = record { number = 0; stage = 0; first = 0; depth = 0 }
 
 -- the binders around operand s
 abbrev pub under : System → List Entry → Entry → ℕ → ℕ → List ℕ → List ℕ
-under α T e s v Γ = cond (binds_of e s) (binder_of α T e s v ∷ Γ) Γ
+under α T e s v Γ = cond (binds e.tag s) (binder_of α T e s v ∷ Γ) Γ
 
 -- n operands of e from the s-th on, each walked by w, and then the term; f is the type found before the last
 abbrev pub walk_rest : Meaning → System → ℕ → Entry → (ℕ → Walker) → ℕ → ℕ → ℕ → List ℕ → List Entry → ℕ → ℕ → Walked
@@ -78,46 +74,19 @@ module _ (m : Meaning) (α : System) (t : ℕ) (es : List Entry) where
   abbrev pub run : List ℕ → Frame → Walked → Walked
   run bs f w = and_then w (todo f.number f.stage f.first (env bs f.depth))
 
-  -- what the frames below `top` leave to do, the last one first
-  abbrev pub pend : List Frame → List ℕ → ℕ → Walked → Walked
-  pend fs bs zero w = w
-  pend fs bs (suc j) w = pend fs bs j (run bs (get_or fs j no_frame) w)
+  -- what a stack of frames leaves to do, the one on top first
+  abbrev pub pend : List ℕ → List Frame → Walked → Walked
+  pend bs [] w = w
+  pend bs (F ∷ fs) w = pend bs fs (run bs F w)
 
-  pub pend_same : (fs gs : List Frame) (bs cs : List ℕ) (j : ℕ) → ((i : ℕ) → i < j → get_or fs i no_frame ≡ get_or gs i no_frame) → ((i : ℕ) → i < j → env bs (get_or gs i no_frame).depth ≡ env cs (get_or gs i no_frame).depth) → (w : Walked) → pend fs bs j w ≡ pend gs cs j w
-  pend_same fs gs bs cs zero p q w = refl
-  pend_same fs gs bs cs (suc j) p q w =
-      let G : Frame = get_or gs j no_frame in
-      ap (λ F. pend fs bs j (run bs F w)) (p j (omega arith))
-      ∙ (ap (λ Γ. pend fs bs j (and_then w (todo G.number G.stage G.first Γ))) (q j (omega arith))
-      ∙ pend_same fs gs bs cs j (λ i h. p i (omega arith)) (λ i h. q i (omega arith)) (run cs G w))
-
-  pub pend_stopped : (fs : List Frame) (bs : List ℕ) (j : ℕ) (T : List Entry) (c : TypingFault) → pend fs bs j (stopped T c) ≡ stopped T c
-  pend_stopped fs bs zero T c = refl
-  pend_stopped fs bs (suc j) T c = pend_stopped fs bs j T c
+  pub pend_stopped : (bs : List ℕ) (fs : List Frame) (T : List Entry) (c : TypingFault) → pend bs fs (stopped T c) ≡ stopped T c
+  pend_stopped bs [] T c = refl
+  pend_stopped bs (F ∷ fs) T c = pend_stopped bs fs T c
 
   -- what the frames take
   abbrev pub frame_sum : ℕ → Frame → ℕ
   frame_sum p f = 1 + sum_rest p (at es f.number) (sum_of p es) (names (at es f.number).tag - f.stage) f.stage
 
-  abbrev pub pend_sum : ℕ → List Frame → ℕ → ℕ
-  pend_sum p fs zero = 0
-  pend_sum p fs (suc j) = frame_sum p (get_or fs j no_frame) + pend_sum p fs j
-
-  pub pend_sum_same : (p : ℕ) (fs gs : List Frame) (j : ℕ) → ((i : ℕ) → i < j → get_or fs i no_frame ≡ get_or gs i no_frame) → pend_sum p fs j ≡ pend_sum p gs j
-  pend_sum_same p fs gs zero q = refl
-  pend_sum_same p fs gs (suc j) q =
-      ap₂ (λ F n. frame_sum p F + n) (q j (omega arith)) (pend_sum_same p fs gs j (λ i h. q i (omega arith)))
-
--- two places of a list written
-module _ (fs : List Frame) (top j : ℕ) (e : top ≡ suc j) (F G : Frame) (l : top < length fs) where
-  abbrev pub two : List Frame
-  two = set (set fs j F) top G
-
-  pub two_top : get_or two top no_frame ≡ G
-  two_top = get_or-set_same (set fs j F) top G no_frame (rw length-set l)
-
-  pub two_here : get_or two j no_frame ≡ F
-  two_here = get_or-set_other (set fs j F) top j G no_frame (omega arith) ∙ get_or-set_same fs j F no_frame (omega arith)
-
-  pub two_below : (i : ℕ) → i < j → get_or two i no_frame ≡ get_or fs i no_frame
-  two_below i h = get_or-set_other (set fs j F) top i G no_frame (omega arith) ∙ get_or-set_other fs j i F no_frame (omega arith)
+  abbrev pub pend_sum : ℕ → List Frame → ℕ
+  pend_sum p [] = 0
+  pend_sum p (F ∷ fs) = frame_sum p F + pend_sum p fs

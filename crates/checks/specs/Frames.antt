@@ -1,7 +1,8 @@
 -- How a term's operands are entered. Assumes nothing.
-use Rattle.std.specs.Prelude.{ℕ, zero, suc, ◌+◌, Bool, true, false, cond, List, [], ◌∷◌, ◌==◌, slice_index}
+use Rattle.std.specs.Prelude.{ℕ, zero, suc, ◌+◌, Bool, true, cond, List, [], ◌∷◌, ◌==◌, slice_index}
 use Rattle.calculus.specs.Subtyping.{System}
 use Rattle.tables.specs.declared.entry.Entry.{Entry}
+use Rattle.tables.specs.Depths.{binders}
 use Rattle.tables.specs.Entries.{at}
 use Rattle.walks.specs.Rules.{claim_of}
 use Rattle.checks.specs.declared.walk.Frame.{Frame}
@@ -10,17 +11,13 @@ use Rattle.checks.specs.declared.walk.Frame.{Frame}
 abbrev pub enters_of : List Entry → Entry → ℕ → ℕ → Bool
 enters_of T e s v = cond (e.tag == 24) (cond (s == 1) ((at T v).tag == 4) true) true
 
--- Is a variable bound in operand s? In the body of an abstraction and in the second of a let.
-abbrev pub binds_of : Entry → ℕ → Bool
-binds_of e s = cond (e.tag == 18) true (cond (e.tag == 24) (s == 1) false)
-
--- The type of that variable: the claim, or the inner type of the first operand.
+-- The type of the variable that is bound in operand s, if any is: the claim, or the inner type of the first operand.
 abbrev pub binder_of : System → List Entry → Entry → ℕ → ℕ → ℕ
 binder_of α T e s v = cond (e.tag == 18) (claim_of α e) (cond (e.tag == 24) (cond (s == 1) (at T v).first 0) 0)
 
 -- Under how many binders operand s stands, where the term stands under d.
 abbrev pub deeper_of : Entry → ℕ → ℕ → ℕ
-deeper_of e s d = cond (binds_of e s) (d + 1) d
+deeper_of e s d = d + binders e.tag s
 
 -- The types of the binders, the innermost first, where an array has the outermost first.
 abbrev pub env : List ℕ → ℕ → List ℕ

@@ -1,6 +1,7 @@
 //! What an accepted sufficient check gives.
 ghost use Rattle.std.specs.Prelude.{◌≡◌};
 ghost use Rattle.checks.specs.Checking.{cleared};
+ghost use Rattle.checks.specs.Sense.{plain};
 
 use crate::fault::CheckFault;
 
@@ -30,8 +31,12 @@ impl Clearance {
 pub(crate) fn clear(answer: Result<u64, CheckFault>) -> Result<Clearance, CheckFault>
     ensures { result ≡ cleared answer }
 {
-    match answer {
-        Ok(bound) => Ok(Clearance { bound }),
-        Err(fault) => Err(fault),
-    }
+    answer.map(|bound| Clearance { bound })
+}
+
+/// The bound of an accepted job, whose clearance is given up unused, or why the job is refused.
+pub fn bound_of(answer: Result<Clearance, CheckFault>) -> Result<u64, CheckFault>
+    ensures { result ≡ plain answer }
+{
+    answer.map(Clearance::discard)
 }

@@ -1,18 +1,20 @@
 //! Types compared as they stand in a table: a loop with a stack.
-ghost use Rattle.std.specs.Prelude.{◌≡◌, ◌<◌, ◌≤◌, length};
+ghost use Rattle.std.specs.Prelude.{◌≡◌, ◌+◌, ◌<◌, ◌≤◌, length, ◌++◌};
+ghost use Rattle.arrayvec.specs.ArrayVec.{array_vec_len};
 ghost use Rattle.calculus.specs.Inference.{role_test_way};
 ghost use Rattle.walks.specs.Places.{Grounded};
 ghost use Rattle.walks.specs.Rules as rule;
-ghost use Rattle.checks.specs.Compare.{alike_of};
+ghost use Rattle.checks.specs.Compare.{alike_of, operands_of};
 ghost use Rattle.checks.specs.Systems.{meant};
 
 use crate::system::System;
+use arrayvec::ArrayVec;
 use roles::scheme::Scheme;
 use tables::entry::Entry;
 use tables::operand::{BASE, FUNCTION};
 
 // Two types that are still to be compared, the left with the right or the other way.
-#[derive(Clone, Copy)]
+#[derive(Clone, Copy, Default)]
 pub(crate) struct Pair {
     left: u32,
     right: u32,
@@ -49,6 +51,31 @@ fn alike<S: Scheme>(scheme: &S, system: System, forward: bool, x: Entry, y: Entr
     }
 }
 
+// Pushes what two alike types leave to compare: nothing, two inner types, or two results and then two arguments, which turn.
+fn push_operands(pairs: &mut ArrayVec<Pair, 2048>, forward: bool, x: Entry, y: Entry)
+    requires { array_vec_len pairs.old + length (operands_of forward x y) ≤ 2048 }
+    ensures { pairs.new.items ≡ pairs.old.items ++ operands_of forward x y }
+{
+    if x.tag == FUNCTION {
+        pairs.push(Pair {
+            left: x.second,
+            right: y.second,
+            forward,
+        });
+        pairs.push(Pair {
+            left: x.first,
+            right: y.first,
+            forward: !forward,
+        });
+    } else if x.tag != BASE {
+        pairs.push(Pair {
+            left: x.first,
+            right: y.first,
+            forward,
+        });
+    }
+}
+
 /// Is type `a` below type `b`, where the first `used` types of the table are there?
 pub(crate) fn below<S: Scheme>(
     scheme: &S,
@@ -61,45 +88,19 @@ pub(crate) fn below<S: Scheme>(
     requires { (used ≤ length types.now) × ((used ≤ 2048) × ((a < used) × ((b < used) × (Grounded (S.meaning scheme.now).role types.now used)))) }
     ensures { result ≡ rule.below (S.meaning scheme.now) (meant system) types.now a b }
 {
-    let mut pairs = [Pair {
+    let mut pairs = ArrayVec::<Pair, 2048>::new();
+    pairs.push(Pair {
         left: a,
         right: b,
         forward: true,
-    }; 2048];
-    let mut top: usize = 1;
-    while top > 0 {
-        let t = top - 1;
-        let Pair {
-            left,
-            right,
-            forward,
-        } = pairs[t];
-        let x = types[left as usize];
-        let y = types[right as usize];
-        if !alike(scheme, system, forward, x, y) {
+    });
+    while let Some(pair) = pairs.pop() {
+        let x = types[pair.left as usize];
+        let y = types[pair.right as usize];
+        if !alike(scheme, system, pair.forward, x, y) {
             return false;
         }
-        if x.tag == BASE {
-            top = t;
-        } else if x.tag == FUNCTION {
-            pairs[t] = Pair {
-                left: x.second,
-                right: y.second,
-                forward,
-            };
-            pairs[top] = Pair {
-                left: x.first,
-                right: y.first,
-                forward: !forward,
-            };
-            top += 1;
-        } else {
-            pairs[t] = Pair {
-                left: x.first,
-                right: y.first,
-                forward,
-            };
-        }
+        push_operands(&mut pairs, pair.forward, x, y);
     }
     true
 }

@@ -14,7 +14,7 @@ use roles::scheme::Scheme;
 use tables::entry::Entry;
 use tables::operand::{
     ABSTRACTION, APPLICATION, BASE, CHECK, COMPUTATION, FIX, FUNCTION, GUARD, GUARDED, LET, RAISE,
-    UNIT, VALUE, VARIABLE,
+    UNIT, VALUE, VARIABLE, ask,
 };
 use walks::fault::TypingFault;
 use walks::finding::Finding;
@@ -51,18 +51,15 @@ fn applied<S: Scheme>(
     used: u32,
     f: u32,
     x: u32,
-) -> Finding
+) -> Result<Finding, TypingFault>
     requires { (used ≤ length types.now) × ((used ≤ 2048) × ((f < used) × ((x < used) × (Grounded (S.meaning scheme.now).role types.now used)))) }
     ensures { result ≡ rule.applied (S.meaning scheme.now) (meant system) place types.now f x }
 {
     let function = types[f as usize];
-    if function.tag != FUNCTION {
-        Finding::Refused(TypingFault::NoFunction { place })
-    } else if below(scheme, system, types, used, x, function.first) {
-        Finding::Known(function.second)
-    } else {
-        Finding::Refused(TypingFault::Argument { place })
-    }
+    ask(function.tag == FUNCTION, TypingFault::NoFunction { place })?;
+    let fits = below(scheme, system, types, used, x, function.first);
+    ask(fits, TypingFault::Argument { place })?;
+    Ok(Finding::Known(function.second))
 }
 
 // The rule of a fix of an `f`.
@@ -73,55 +70,54 @@ fn fixed<S: Scheme>(
     types: &[Entry],
     used: u32,
     f: u32,
-) -> Finding
+) -> Result<Finding, TypingFault>
     requires { (used ≤ length types.now) × ((used ≤ 2048) × ((f < used) × (Grounded (S.meaning scheme.now).role types.now used))) }
     ensures { result ≡ rule.fixed (S.meaning scheme.now) (meant system) place types.now f }
 {
     let function = types[f as usize];
-    if function.tag != FUNCTION {
-        Finding::Refused(TypingFault::NoFunction { place })
-    } else if below(scheme, system, types, used, function.second, function.first) {
-        Finding::Known(function.second)
-    } else {
-        Finding::Refused(TypingFault::Result { place })
-    }
+    ask(function.tag == FUNCTION, TypingFault::NoFunction { place })?;
+    let fits = below(scheme, system, types, used, function.second, function.first);
+    ask(fits, TypingFault::Result { place })?;
+    Ok(Finding::Known(function.second))
 }
 
 // The rule of a check.
-fn checked(place: u32, body: Entry) -> Finding
+fn checked(place: u32, body: Entry) -> Result<Finding, TypingFault>
     ensures { result ≡ rule.checked_as place body }
 {
-    if body.tag == GUARDED {
-        Finding::New(computation(body.third, body.first))
-    } else {
-        Finding::Refused(TypingFault::NoGuard { place })
-    }
+    ask(body.tag == GUARDED, TypingFault::NoGuard { place })?;
+    Ok(Finding::New(computation(body.third, body.first)))
 }
 
 // The rule of a let whose first operand is a computation.
-fn joined<S: Scheme>(scheme: &S, place: u32, first: Entry, second: Entry) -> Finding
+fn joined<S: Scheme>(
+    scheme: &S,
+    place: u32,
+    first: Entry,
+    second: Entry,
+) -> Result<Finding, TypingFault>
     requires { second.tag ≡ 4 → is_some ((S.meaning scheme.now).join first.third second.third) ≡ true }
     ensures { result ≡ rule.joined_as (S.meaning scheme.now) place first second }
 {
-    if second.tag == COMPUTATION {
-        let role = scheme.join(first.third, second.third).unwrap();
-        Finding::New(computation(role, second.first))
-    } else {
-        Finding::Refused(TypingFault::NoComputation { place })
-    }
+    ask(
+        second.tag == COMPUTATION,
+        TypingFault::NoComputation { place },
+    )?;
+    let role = scheme.join(first.third, second.third).unwrap();
+    Ok(Finding::New(computation(role, second.first)))
 }
 
 // The rule of a raise by a role.
-fn raised<S: Scheme>(scheme: &S, place: u32, by: u64, body: Entry) -> Finding
+fn raised<S: Scheme>(scheme: &S, place: u32, by: u64, body: Entry) -> Result<Finding, TypingFault>
     requires { body.tag ≡ 4 → is_some ((S.meaning scheme.now).remainder body.third by) ≡ true }
     ensures { result ≡ rule.raised_as (S.meaning scheme.now) place by body }
 {
-    if body.tag == COMPUTATION {
-        let role = scheme.remainder(body.third, by).unwrap();
-        Finding::New(computation(role, body.first))
-    } else {
-        Finding::Refused(TypingFault::NoComputation { place })
-    }
+    ask(
+        body.tag == COMPUTATION,
+        TypingFault::NoComputation { place },
+    )?;
+    let role = scheme.remainder(body.third, by).unwrap();
+    Ok(Finding::New(computation(role, body.first)))
 }
 
 // For sufficiency a restriction has to dominate the role of its body.
@@ -135,16 +131,22 @@ fn permitted<S: Scheme>(scheme: &S, system: System, to: u64, role: u64) -> bool
 }
 
 // The rule of a restriction to a role.
-fn restricted<S: Scheme>(scheme: &S, system: System, place: u32, to: u64, body: Entry) -> Finding
+fn restricted<S: Scheme>(
+    scheme: &S,
+    system: System,
+    place: u32,
+    to: u64,
+    body: Entry,
+) -> Result<Finding, TypingFault>
     ensures { result ≡ rule.restricted_as (S.meaning scheme.now) (meant system) place to body }
 {
-    if body.tag != COMPUTATION {
-        Finding::Refused(TypingFault::NoComputation { place })
-    } else if permitted(scheme, system, to, body.third) {
-        Finding::New(computation(body.third, body.first))
-    } else {
-        Finding::Refused(TypingFault::Restriction { place })
-    }
+    ask(
+        body.tag == COMPUTATION,
+        TypingFault::NoComputation { place },
+    )?;
+    let permitted = permitted(scheme, system, to, body.third);
+    ask(permitted, TypingFault::Restriction { place })?;
+    Ok(Finding::New(computation(body.third, body.first)))
 }
 
 /// What is found of a term by the types of its operands, `f` and then `x`, and of its binder.
@@ -158,34 +160,34 @@ pub(crate) fn judge<S: Scheme>(
     f: u32,
     x: u32,
     bound: u32,
-) -> Finding
+) -> Result<Finding, TypingFault>
     requires { Ready (S.meaning scheme.now) types.now used e f x }
     ensures { result ≡ judge_of (S.meaning scheme.now) (meant system) place types.now e f x bound }
 {
     match e.tag {
-        VALUE => Finding::New(Entry {
+        VALUE => Ok(Finding::New(Entry {
             tag: BASE,
             first: e.first,
             second: 0,
             third: 0,
-        }),
-        VARIABLE => Finding::Known(bound),
-        ABSTRACTION => Finding::New(Entry {
+        })),
+        VARIABLE => Ok(Finding::Known(bound)),
+        ABSTRACTION => Ok(Finding::New(Entry {
             tag: FUNCTION,
             first: claim(system, e),
             second: x,
             third: 0,
-        }),
+        })),
         APPLICATION => applied(scheme, system, place, types, used, f, x),
         FIX => fixed(scheme, system, place, types, used, x),
-        GUARD => Finding::New(Entry {
+        GUARD => Ok(Finding::New(Entry {
             tag: GUARDED,
             first: x,
             second: 0,
             third: e.third,
-        }),
+        })),
         CHECK => checked(place, types[x as usize]),
-        UNIT => Finding::New(computation(scheme.bottom(), x)),
+        UNIT => Ok(Finding::New(computation(scheme.bottom(), x))),
         LET => joined(scheme, place, types[f as usize], types[x as usize]),
         RAISE => raised(scheme, place, e.third, types[x as usize]),
         _ => restricted(scheme, system, place, e.third, types[x as usize]),

@@ -1,33 +1,30 @@
 //! The walk of a check over the terms of a job: a loop with a stack.
 ghost use Rattle.std.specs.Prelude.{◌≡◌, ℕ, ◌+◌, ◌-◌, ◌^◌, ◌<◌, ◌≤◌, [], length, Ok};
-ghost use Rattle.walks.specs.Places.{operand_of, Walkable};
+ghost use Rattle.tables.specs.Entries.{operand_of};
+ghost use Rattle.walks.specs.Places.{Walkable};
 ghost use Rattle.walks.specs.Walk.{walk_of, told, table_of};
-ghost use Rattle.checks.specs.Frames.{advanced, opened, binder_of, binds_of, deeper_of, enters_of, env};
+ghost use Rattle.checks.specs.Frames.{advanced, opened, binder_of, deeper_of, enters_of, env};
 ghost use Rattle.checks.specs.Judge.{bound_of};
 ghost use Rattle.checks.specs.Systems.{meant};
 
 use crate::judge::{claim, judge};
 use crate::system::System;
+use arrayvec::ArrayVec;
 use roles::scheme::Scheme;
 use tables::entry::Entry;
-use tables::operand::{ABSTRACTION, COMPUTATION, LET, VARIABLE, named_terms};
+use tables::operand::{
+    ABSTRACTION, COMPUTATION, LET, VARIABLE, ask, binds, named_terms, operand_of,
+};
 use walks::fault::TypingFault;
 use walks::finding::Finding;
 
 // A term under `depth` binders of which `stage` operands are walked; `first` is the type found before the last one was entered.
-#[derive(Clone, Copy)]
+#[derive(Clone, Copy, Default)]
 pub(crate) struct Frame {
     number: u32,
     stage: u8,
     first: u32,
     depth: u32,
-}
-
-// The operand of a stage: the first, then the second.
-fn operand(e: Entry, stage: u8) -> u32
-    ensures { result ≡ operand_of e stage }
-{
-    if stage == 0 { e.first } else { e.second }
 }
 
 // The type of a variable's binder.
@@ -52,21 +49,6 @@ fn enters(types: &[Entry], e: Entry, stage: u8, last: u32) -> bool
     } else {
         types[last as usize].tag == COMPUTATION
     }
-}
-
-// Is a variable bound in the operand?
-fn binds(e: Entry, stage: u8) -> bool
-    ensures { result ≡ binds_of e stage }
-{
-    e.tag == ABSTRACTION || (e.tag == LET && stage == 1)
-}
-
-// Under how many binders the operand stands.
-fn deeper(e: Entry, stage: u8, depth: u32) -> u32
-    requires { depth < 1024 }
-    ensures { result ≡ deeper_of e stage depth }
-{
-    if binds(e, stage) { depth + 1 } else { depth }
 }
 
 // The type of the variable that is bound in the operand, if any is.
@@ -100,7 +82,9 @@ fn enter(e: Entry, frame: Frame) -> Frame
     requires { frame.depth < 1024 }
     ensures { result ≡ opened (operand_of e frame.stage) (deeper_of e frame.stage frame.depth) }
 {
-    open(operand(e, frame.stage), deeper(e, frame.stage, frame.depth))
+    let bound = binds(e.tag, frame.stage);
+    let depth = if bound { frame.depth + 1 } else { frame.depth };
+    open(operand_of(e, frame.stage), depth)
 }
 
 // The term with one more operand entered, where `last` was found before it.
@@ -128,41 +112,30 @@ pub(crate) fn walk<S: Scheme>(
     ensures table { types.new ≡ table_of (walk_of (S.meaning scheme.now) (meant system) t terms.now (length terms.now - 1) [] types.old t) }
     ensures there { (x : ℕ) → result ≡ Ok x → x < length types.new }
 {
-    let root = terms.len() as u32 - 1;
-    let mut frames = [open(root, 0); 1024];
+    let mut frames = ArrayVec::<Frame, 1024>::new();
+    frames.push(open(terms.len() as u32 - 1, 0));
     let mut binders = [0u32; 1024];
-    let mut top: usize = 1;
     let mut used = t;
     let mut last: u32 = 0;
-    while top > 0 {
-        let f = top - 1;
-        let frame = frames[f];
+    while let Some(frame) = frames.pop() {
         let e = terms[frame.number as usize];
         let place = t + frame.number;
         if frame.stage < named_terms(e.tag) {
-            if !enters(types, e, frame.stage, last) {
-                return Err(TypingFault::NoComputation { place });
-            }
+            let walked = enters(types, e, frame.stage, last);
+            ask(walked, TypingFault::NoComputation { place })?;
             binders[frame.depth as usize] = binder(system, types, e, frame.stage, last);
-            frames[f] = next(frame, last);
-            frames[top] = enter(e, frame);
-            top += 1;
+            frames.push(next(frame, last));
+            frames.push(enter(e, frame));
         } else {
             let bound = lookup(&binders, frame.depth, e);
             let first = frame.first;
-            match judge(scheme, system, place, types, used, e, first, last, bound) {
-                Finding::Refused(fault) => {
-                    return Err(fault);
-                }
-                Finding::Known(ty) => {
-                    last = ty;
-                    top = f;
-                }
+            let found = judge(scheme, system, place, types, used, e, first, last, bound)?;
+            match found {
+                Finding::Known(ty) => last = ty,
                 Finding::New(entry) => {
                     types[used as usize] = entry;
                     last = used;
                     used += 1;
-                    top = f;
                 }
             }
         }

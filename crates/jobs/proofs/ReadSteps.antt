@@ -1,5 +1,5 @@
 -- How the answers of a reading's steps make up its own.
-use Rattle.std.proofs.Common.{◌≡◌, ℕ, List, ◌++◌, drop, Ok, Err, sym, ap, ◌∙◌, subst}
+use Rattle.std.proofs.Common.{◌≡◌, ℕ, List, ◌++◌, drop, length, Ok, Err, Result, sym, ap, ◌∙◌, subst}
 use Rattle.roles.specs.Meaning.{Meaning}
 use Rattle.std.proofs.lemmas.List.FromFn.{length-map-range_with_len}
 use Rattle.tables.specs.declared.entry.Entry.{Entry}
@@ -9,9 +9,9 @@ use Rattle.tables.specs.Form.{entries_asked}
 use Rattle.jobs.specs.declared.fault.ImageFault.{ImageFault}
 use Rattle.jobs.specs.declared.fault.ImageFault.TheVariants.{Form}
 use Rattle.tables.specs.Asking.{and_then, told}
-use Rattle.jobs.specs.Asking.{Answer, formed}
+use Rattle.jobs.specs.Asking.{Answer, formed, left}
 use Rattle.jobs.specs.Image.{types_told, terms_told, types_in, terms_in}
-use Rattle.jobs.specs.Reading.{Outlined, counts_told, outline_asked, read_asked, filled}
+use Rattle.jobs.specs.Reading.{Outlined, counts_told, outline_asked, read_asked, read_told, types_left, terms_left, filled}
 use Rattle.jobs.proofs.Asked.{told_yes, told_value, told_no, formed_no, formed_yes}
 use Rattle.jobs.proofs.Outlines.{outlined, roomy, Roomy}
 
@@ -54,3 +54,17 @@ module _ (m : Meaning) (bs : List ℕ) (a b : ℕ) where
     terms_filled T =
         ap (λ (x : Counts). terms_in bs x.types x.terms ++ drop x.terms T) (told_value _ (counts_told bs) k h)
         ∙ ap (λ z. terms_in bs (types_told bs) (terms_told bs) ++ drop z T) (sym (length-map-range_with_len _ 0 (terms_told bs)))
+
+-- what a reading tells and leaves, when it is refused
+pub record Refused (m : Meaning) (bs : List ℕ) (T M : List Entry) (r : Result Counts ImageFault) : Type 0 where
+  pub answer : r ≡ read_told m bs (length T) (length M)
+  pub types : T ≡ types_left m bs T M
+  pub terms : M ≡ terms_left m bs T M
+
+pub refused : (m : Meaning) (bs : List ℕ) (T M : List Entry) (r : Result Counts ImageFault) (e f : ImageFault) → r ≡ Err e → e ≡ f → read_asked m bs (length T) (length M) ≡ Err f → Refused m bs T M r
+refused m bs T M r e f p q h =
+    record {
+      answer = p ∙ (ap Err q ∙ sym (ap (λ z. told z (counts_told bs)) h));
+      types = sym (ap (λ z. left z (filled (types_in bs (types_told bs) (terms_told bs)) T) T) h);
+      terms = sym (ap (λ z. left z (filled (terms_in bs (types_told bs) (terms_told bs)) M) M) h);
+    }

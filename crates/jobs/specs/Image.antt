@@ -1,20 +1,20 @@
 -- A job as bytes: t and n, a tag for each entry, then the operands of each entry; numbers lie lowest byte first. Assumes nothing.
-use Rattle.std.specs.Prelude.{ℕ, ◌+◌, ◌*◌, ◌/◌, ◌%◌, List, [], ◌∷◌, ◌++◌, map, length, drop, slice_index}
+use Rattle.std.specs.Prelude.{ℕ, ◌+◌, ◌*◌, List, ◌++◌, map, length, drop, slice_index}
 use Rattle.std.specs.List.{range_with_len, flat_map}
+use Rattle.codes.specs.Bytes.{little_endian, bytes_of}
 use Rattle.tables.specs.declared.entry.Entry.{Entry}
 
 -- The number in the two bytes from place p on.
 abbrev pub number16 : List ℕ → ℕ → ℕ
-number16 bs p = slice_index bs p + slice_index bs (p + 1) * 256
+number16 bs p = little_endian 2 bs p
 
 -- The number in the four bytes from place p on.
 abbrev pub number32 : List ℕ → ℕ → ℕ
-number32 bs p = slice_index bs p + slice_index bs (p + 1) * 256 + slice_index bs (p + 2) * 65536 + slice_index bs (p + 3) * 16777216
+number32 bs p = little_endian 4 bs p
 
 -- The number in the eight bytes from place p on.
 abbrev pub number64 : List ℕ → ℕ → ℕ
-number64 bs p =
-    slice_index bs p + slice_index bs (p + 1) * 256 + slice_index bs (p + 2) * 65536 + slice_index bs (p + 3) * 16777216 + slice_index bs (p + 4) * 4294967296 + slice_index bs (p + 5) * 1099511627776 + slice_index bs (p + 6) * 281474976710656 + slice_index bs (p + 7) * 72057594037927936
+number64 bs p = little_endian 8 bs p
 
 -- How many types an image says that it has.
 abbrev pub types_told : List ℕ → ℕ
@@ -56,16 +56,15 @@ terms_in bs t n = entries (drop (4 + t) bs) (drop (16 * t) (operands_in bs t n))
 
 -- A number of 16 bits as bytes.
 abbrev pub bytes16 : ℕ → List ℕ
-bytes16 x = (x % 256) ∷ (x / 256 % 256) ∷ []
+bytes16 x = bytes_of 2 x
 
 -- A number of 32 bits as bytes.
 abbrev pub bytes32 : ℕ → List ℕ
-bytes32 x = (x % 256) ∷ (x / 256 % 256) ∷ (x / 65536 % 256) ∷ (x / 16777216 % 256) ∷ []
+bytes32 x = bytes_of 4 x
 
 -- A number of 64 bits as bytes.
 abbrev pub bytes64 : ℕ → List ℕ
-bytes64 x =
-    (x % 256) ∷ (x / 256 % 256) ∷ (x / 65536 % 256) ∷ (x / 16777216 % 256) ∷ (x / 4294967296 % 256) ∷ (x / 1099511627776 % 256) ∷ (x / 281474976710656 % 256) ∷ (x / 72057594037927936 % 256) ∷ []
+bytes64 x = bytes_of 8 x
 
 -- The 16 bytes of an entry's operands.
 abbrev pub operand_bytes : Entry → List ℕ

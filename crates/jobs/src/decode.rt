@@ -1,40 +1,15 @@
 //! Entries from bytes.
-ghost use Rattle.std.specs.Prelude.{◌≡◌, ◌+◌, ◌*◌, ◌<◌, ◌≤◌, ◌++◌, length, drop};
-ghost use Rattle.jobs.specs.Image.{entries, entry_at, image_length, number16, number32, number64, terms_in, types_in};
+ghost use Rattle.std.specs.Prelude.{◌≡◌, ◌+◌, ◌*◌, ◌<◌, ◌≤◌, ◌++◌, length, take, drop};
+ghost use Rattle.jobs.specs.Image.{entries, entry_at, image_length, terms_in, types_in};
 
 use tables::entry::{Counts, Entry};
 
-/// The number in the two bytes from place `p` on.
-pub(crate) fn number16(bytes: &[u8], p: usize) -> u16
-    requires { p + 2 ≤ length bytes.now }
-    ensures { result ≡ number16 bytes.now p }
+/// The `N` bytes from place `p` on.
+pub(crate) fn bytes_at<const N: usize>(bytes: &[u8], p: usize) -> [u8; N]
+    requires { p + N ≤ length bytes.now }
+    ensures { result ≡ take N (drop p bytes.now) }
 {
-    u16::from_le_bytes([bytes[p], bytes[p + 1]])
-}
-
-// The number in the four bytes from place `p` on.
-fn number32(bytes: &[u8], p: usize) -> u32
-    requires { p + 4 ≤ length bytes.now }
-    ensures { result ≡ number32 bytes.now p }
-{
-    u32::from_le_bytes([bytes[p], bytes[p + 1], bytes[p + 2], bytes[p + 3]])
-}
-
-// The number in the eight bytes from place `p` on.
-fn number64(bytes: &[u8], p: usize) -> u64
-    requires { p + 8 ≤ length bytes.now }
-    ensures { result ≡ number64 bytes.now p }
-{
-    u64::from_le_bytes([
-        bytes[p],
-        bytes[p + 1],
-        bytes[p + 2],
-        bytes[p + 3],
-        bytes[p + 4],
-        bytes[p + 5],
-        bytes[p + 6],
-        bytes[p + 7],
-    ])
+    *bytes[p..].first_chunk::<N>().unwrap()
 }
 
 // Entry `k` of a table, from its tags and its operands.
@@ -45,19 +20,19 @@ fn entry(tags: &[u8], operands: &[u8], k: usize) -> Entry
     let p = 16 * k;
     Entry {
         tag: tags[k],
-        first: number32(operands, p),
-        second: number32(operands, p + 4),
-        third: number64(operands, p + 8),
+        first: u32::from_le_bytes(bytes_at(operands, p)),
+        second: u32::from_le_bytes(bytes_at(operands, p + 4)),
+        third: u64::from_le_bytes(bytes_at(operands, p + 8)),
     }
 }
 
-// Fills the first `n` places of a table.
-fn fill(table: &mut [Entry], n: usize, tags: &[u8], operands: &[u8])
-    requires { (n ≤ length table.old) × ((n ≤ length tags.now) × (16 * n ≤ length operands.now)) }
-    ensures { table.new ≡ entries tags.now operands.now n ++ drop n table.old }
+// Fills a table.
+fn fill(table: &mut [Entry], tags: &[u8], operands: &[u8])
+    requires { (length table.old ≤ length tags.now) × (16 * length table.old ≤ length operands.now) }
+    ensures { table.new ≡ entries tags.now operands.now (length table.old) }
 {
-    for k in 0..n {
-        table[k] = entry(tags, operands, k);
+    for (k, place) in table.iter_mut().enumerate() {
+        *place = entry(tags, operands, k);
     }
 }
 
@@ -70,6 +45,6 @@ pub(crate) fn decode(image: &[u8], counts: Counts, types: &mut [Entry], terms: &
     let t = counts.types as usize;
     let n = counts.terms as usize;
     let operands = &image[4 + t + n..];
-    fill(types, t, &image[4..], operands);
-    fill(terms, n, &image[4 + t..], &operands[16 * t..]);
+    fill(&mut types[..t], &image[4..], operands);
+    fill(&mut terms[..n], &image[4 + t..], &operands[16 * t..]);
 }

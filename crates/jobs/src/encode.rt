@@ -1,32 +1,17 @@
 //! Bytes from entries.
 ghost use Rattle.std.specs.Prelude.{◌≡◌, ◌+◌, ◌*◌, ◌^◌, ◌<◌, ◌≤◌, ◌++◌, length, take};
-ghost use Rattle.jobs.specs.Image.{bytes16, bytes32, bytes64, image, image_length, operand_bytes, tags};
+ghost use Rattle.jobs.specs.Image.{image, image_length, operand_bytes, tags};
 ghost use Rattle.std.specs.List.{flat_map};
 
+use codes::bytes::{bytes16, bytes32, bytes64};
 use tables::entry::Entry;
 
-// Writes a number into the two bytes from place `p` on.
-fn put16(out: &mut [u8], p: usize, x: u16)
-    requires { p + 2 ≤ length out.old }
-    ensures { take (p + 2) out.new ≡ take p out.old ++ bytes16 x }
+// Writes bytes from place `p` on.
+fn put<const N: usize>(out: &mut [u8], p: usize, bytes: [u8; N])
+    requires { p + N ≤ length out.old }
+    ensures { take (p + N) out.new ≡ take p out.old ++ bytes.entry }
 {
-    out[p..p + 2].copy_from_slice(&x.to_le_bytes());
-}
-
-// Writes a number into the four bytes from place `p` on.
-fn put32(out: &mut [u8], p: usize, x: u32)
-    requires { p + 4 ≤ length out.old }
-    ensures { take (p + 4) out.new ≡ take p out.old ++ bytes32 x }
-{
-    out[p..p + 4].copy_from_slice(&x.to_le_bytes());
-}
-
-// Writes a number into the eight bytes from place `p` on.
-fn put64(out: &mut [u8], p: usize, x: u64)
-    requires { p + 8 ≤ length out.old }
-    ensures { take (p + 8) out.new ≡ take p out.old ++ bytes64 x }
-{
-    out[p..p + 8].copy_from_slice(&x.to_le_bytes());
+    out[p..p + N].copy_from_slice(&bytes);
 }
 
 // Writes the operands of an entry into the 16 bytes from place `p` on.
@@ -34,9 +19,9 @@ fn put_operands(out: &mut [u8], p: usize, e: Entry)
     requires { p + 16 ≤ length out.old }
     ensures { take (p + 16) out.new ≡ take p out.old ++ operand_bytes e }
 {
-    put32(out, p, e.first);
-    put32(out, p + 4, e.second);
-    put64(out, p + 8, e.third);
+    put(out, p, bytes32(e.first));
+    put(out, p + 4, bytes32(e.second));
+    put(out, p + 8, bytes64(e.third));
 }
 
 // Writes the tags of a table from place `p` on.
@@ -44,8 +29,8 @@ fn put_tags(out: &mut [u8], p: usize, table: &[Entry])
     requires { p + length table.now ≤ length out.old }
     ensures { take (p + length table.now) out.new ≡ take p out.old ++ tags table.now }
 {
-    for k in 0..table.len() {
-        out[p + k] = table[k].tag;
+    for (k, e) in table.iter().enumerate() {
+        out[p + k] = e.tag;
     }
 }
 
@@ -54,8 +39,8 @@ fn put_table(out: &mut [u8], p: usize, table: &[Entry])
     requires { p + 16 * length table.now ≤ length out.old }
     ensures { take (p + 16 * length table.now) out.new ≡ take p out.old ++ flat_map operand_bytes table.now }
 {
-    for k in 0..table.len() {
-        put_operands(out, p + 16 * k, table[k]);
+    for (k, e) in table.iter().enumerate() {
+        put_operands(out, p + 16 * k, *e);
     }
 }
 
@@ -66,8 +51,8 @@ pub(crate) fn encode(types: &[Entry], terms: &[Entry], out: &mut [u8])
 {
     let t = types.len();
     let n = terms.len();
-    put16(out, 0, t as u16);
-    put16(out, 2, n as u16);
+    put(out, 0, bytes16(t as u16));
+    put(out, 2, bytes16(n as u16));
     put_tags(out, 4, types);
     put_tags(out, 4 + t, terms);
     put_table(out, 4 + t + n, types);

@@ -4,6 +4,7 @@ ghost use Rattle.jobs.specs.Faults.{number_of, place_of};
 ghost use Rattle.jobs.specs.declared.fault.ImageFault.TheVariants.{Form};
 
 use roles::fault::Fault;
+use std::fmt;
 use tables::fault::FormFault;
 
 /// The first question about an image that was answered with no.
@@ -39,6 +40,20 @@ impl Fault for ImageFault {
             ImageFault::Short { .. } => 0,
             ImageFault::Length { .. } => 0,
             ImageFault::Output { .. } => 0,
+        }
+    }
+}
+
+impl fmt::Display for ImageFault {
+    fn fmt<W: fmt::Write>(&self, f: &mut fmt::Formatter<W>) -> fmt::Result {
+        match self {
+            ImageFault::Form(fault) => write!(f, "{fault}"),
+            ImageFault::Short { .. } => write!(f, "the image has fewer than four bytes"),
+            ImageFault::Length { .. } => write!(
+                f,
+                "the image has not just the bytes of its entries"
+            ),
+            ImageFault::Output { .. } => write!(f, "the output has not the length of the image"),
         }
     }
 }

@@ -5,7 +5,7 @@ ghost use Rattle.jobs.specs.Reading.{Outlined, counts_told, outline_asked, read_
 ghost use Rattle.tables.specs.Asking.{told};
 ghost use Rattle.tables.specs.Form.{entries_asked};
 
-use crate::decode::{decode, number16};
+use crate::decode::{bytes_at, decode};
 use crate::fault::ImageFault;
 use roles::scheme::Scheme;
 use tables::entry::{Counts, Entry};
@@ -27,8 +27,8 @@ fn counts_told(image: &[u8]) -> Result<Counts, ImageFault>
     let length = image.len();
     ask(length >= 4, ImageFault::Short { length })?;
     Ok(Counts {
-        types: number16(image, 0) as u32,
-        terms: number16(image, 2) as u32,
+        types: u16::from_le_bytes(bytes_at(image, 0)) as u32,
+        terms: u16::from_le_bytes(bytes_at(image, 2)) as u32,
     })
 }
 

@@ -3,10 +3,10 @@ use Rattle.std.proofs.Common.{◌≡◌, ℕ, zero, suc, ◌+◌, ◌*◌, ◌�
 use Rattle.std.specs.List.{range_with_len, flat_map}
 use Rattle.std.proofs.lemmas.List.FromFn.{fill_by_all, length-map-range_with_len, map-range_with_len_more}
 use Rattle.std.proofs.lemmas.List.{length-take-le, length-drop, get_or-take, get_or-drop, drop-drop, take_all, flat_map_more}
+use Rattle.codes.proofs.Numbers.{bytes_back}
 use Rattle.tables.specs.declared.entry.Entry.{Entry}
 use Rattle.jobs.specs.Image.{types_told, terms_told, image_length, entry_at, entries, operands_in, types_in, terms_in, bytes16, operand_bytes, tags, image}
 use Rattle.rounds.specs.Rounds.{Bytes}
-use Rattle.rounds.proofs.Digits.{same16, same32, same64}
 
 take-nil : (k : ℕ) → [] ≡ take {A = ℕ} k []
 take-nil zero = refl
@@ -37,7 +37,7 @@ module _ (ts ops : List ℕ) (b : Bytes ops) where
   operands_same : (k : ℕ) → 16 * k + 16 ≤ length ops → operand_bytes (entry_at ts ops k) ≡ take 16 (drop (16 * k) ops)
   operands_same k h =
       let p : ℕ = 16 * k in
-      ap₂ (λ (x y : List ℕ). x ++ y) (ap₂ (λ (x y : List ℕ). x ++ y) (same32 ops b p (omega arith)) (same32 ops b (p + 4) (omega arith))) (same64 ops b (p + 8) (omega arith))
+      ap₂ (λ (x y : List ℕ). x ++ y) (ap₂ (λ (x y : List ℕ). x ++ y) (bytes_back 4 ops p b (omega arith)) (bytes_back 4 ops (p + 4) b (omega arith))) (bytes_back 8 ops (p + 8) b (omega arith))
       ∙ (ap₂ (λ (x y : List ℕ). take 4 (drop p ops) ++ take 4 x ++ take 8 y) (sym (drop-drop 4 p ops)) (sym (drop-drop 8 p ops))
       ∙ (ap (λ x. x ++ take 8 (drop 8 (drop p ops))) (take-add (drop p ops) 4 4) ∙ take-add (drop p ops) 8 8))
 
@@ -58,7 +58,7 @@ module _ (bs : List ℕ) (t n : ℕ) (b : Bytes bs) (et : types_told bs ≡ t) (
 
   counts : bytes16 (length (types_in bs t n)) ++ bytes16 (length (terms_in bs t n)) ≡ take 4 bs
   counts =
-      ap₂ (λ (x y : List ℕ). x ++ y) (ap bytes16 (length-map-range_with_len _ 0 t ∙ sym et) ∙ same16 bs b 0 (omega arith)) (ap bytes16 (length-map-range_with_len _ 0 n ∙ sym en) ∙ same16 bs b 2 (omega arith))
+      ap₂ (λ (x y : List ℕ). x ++ y) (ap bytes16 (length-map-range_with_len _ 0 t ∙ sym et) ∙ bytes_back 2 bs 0 b (omega arith)) (ap bytes16 (length-map-range_with_len _ 0 n ∙ sym en) ∙ bytes_back 2 bs 2 b (omega arith))
       ∙ take-add bs 2 2
 
   tagged : bytes16 (length (types_in bs t n)) ++ bytes16 (length (terms_in bs t n)) ++ tags (types_in bs t n) ++ tags (terms_in bs t n) ≡ take (4 + t + n) bs

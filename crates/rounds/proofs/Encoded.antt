@@ -1,12 +1,12 @@
 -- The entries that an image of entries holds.
-use Rattle.std.proofs.Common.{◌≡◌, ℕ, zero, suc, ◌+◌, ◌-◌, ◌*◌, ◌/◌, ◌%◌, ◌<◌, List, [], ◌∷◌, ◌++◌, map, length, get_or, take, drop, sym, refl, ap, ◌∙◌, ap₂, add-zero, add-one, arith, lit<}
+use Rattle.std.proofs.Common.{◌≡◌, ℕ, zero, suc, ◌+◌, ◌-◌, ◌*◌, ◌<◌, List, [], ◌∷◌, ◌++◌, map, length, get_or, take, drop, sym, refl, ap, ◌∙◌, ap₂, add-one, arith, lit<}
 use Rattle.std.specs.List.{range_with_len, flat_map}
 use Rattle.std.proofs.lemmas.List.{append_assoc, append-nil, length-append, length-map, get_or-append_right, drop-drop, drop_at}
+use Rattle.codes.proofs.Numbers.{number_same, number_back}
 use Rattle.tables.specs.declared.entry.Entry.{Entry}
 use Rattle.tables.specs.Entries.{at}
 use Rattle.jobs.specs.Image.{types_told, terms_told, image_length, entry_at, entries, operands_in, types_in, terms_in, number32, number64, operand_bytes, tags, image}
 use Rattle.rounds.specs.Rounds.{Fits, Fit}
-use Rattle.rounds.proofs.Digits.{sum32, sum64}
 
 map_same : {X Y : Type 0} (f g : X → Y) (xs : List X) → ((x : X) → f x ≡ g x) → map f xs ≡ map g xs
 map_same f g [] h = refl
@@ -16,26 +16,6 @@ shift : {X : Type 0} (f : ℕ → X) (a n : ℕ) → map f (range_with_len (a + 
 shift f a zero = refl
 shift f a (suc n) = ap (λ l. f (a + 1) ∷ l) (shift f (a + 1) n)
 
-same32 : (xs ys : List ℕ) (p q : ℕ) → ((j : ℕ) → get_or xs (p + j) 0 ≡ get_or ys (q + j) 0) → number32 xs p ≡ number32 ys q
-same32 xs ys p q h =
-    let e : get_or xs p 0 ≡ get_or ys q 0 = ap (λ k. get_or xs k 0) (sym (add-zero p)) ∙ (h 0 ∙ ap (λ k. get_or ys k 0) (add-zero q)) in
-    let f = h 1 in
-    let g = h 2 in
-    let i = h 3 in
-    cc
-
-same64 : (xs ys : List ℕ) (p q : ℕ) → ((j : ℕ) → get_or xs (p + j) 0 ≡ get_or ys (q + j) 0) → number64 xs p ≡ number64 ys q
-same64 xs ys p q h =
-    let e : get_or xs p 0 ≡ get_or ys q 0 = ap (λ k. get_or xs k 0) (sym (add-zero p)) ∙ (h 0 ∙ ap (λ k. get_or ys k 0) (add-zero q)) in
-    let f = h 1 in
-    let g = h 2 in
-    let i = h 3 in
-    let k = h 4 in
-    let l = h 5 in
-    let m = h 6 in
-    let n = h 7 in
-    cc
-
 -- past the 16 bytes of an entry
 past : (o ops : List ℕ) → length o ≡ 16 → (q r : ℕ) → q ≡ 16 + r → get_or (o ++ ops) q 0 ≡ get_or ops r 0
 past o ops h q r e =
@@ -44,14 +24,14 @@ past o ops h q r e =
 next : (x : ℕ) (ts o ops : List ℕ) → length o ≡ 16 → (k : ℕ) → entry_at (x ∷ ts) (o ++ ops) (k + 1) ≡ entry_at ts ops k
 next x ts o ops h k =
     let a : get_or (x ∷ ts) (k + 1) 0 ≡ get_or ts k 0 = ap (λ j. get_or (x ∷ ts) j 0) (add-one k) in
-    let b : number32 (o ++ ops) (16 * (k + 1)) ≡ number32 ops (16 * k) = same32 (o ++ ops) ops (16 * (k + 1)) (16 * k) (λ j. past o ops h _ _ (omega arith)) in
-    let c : number32 (o ++ ops) (16 * (k + 1) + 4) ≡ number32 ops (16 * k + 4) = same32 (o ++ ops) ops (16 * (k + 1) + 4) (16 * k + 4) (λ j. past o ops h _ _ (omega arith)) in
-    let d : number64 (o ++ ops) (16 * (k + 1) + 8) ≡ number64 ops (16 * k + 8) = same64 (o ++ ops) ops (16 * (k + 1) + 8) (16 * k + 8) (λ j. past o ops h _ _ (omega arith)) in
+    let b : number32 (o ++ ops) (16 * (k + 1)) ≡ number32 ops (16 * k) = number_same 4 (o ++ ops) ops (16 * (k + 1)) (16 * k) (λ j. past o ops h _ _ (omega arith)) in
+    let c : number32 (o ++ ops) (16 * (k + 1) + 4) ≡ number32 ops (16 * k + 4) = number_same 4 (o ++ ops) ops (16 * (k + 1) + 4) (16 * k + 4) (λ j. past o ops h _ _ (omega arith)) in
+    let d : number64 (o ++ ops) (16 * (k + 1) + 8) ≡ number64 ops (16 * k + 8) = number_same 8 (o ++ ops) ops (16 * (k + 1) + 8) (16 * k + 8) (λ j. past o ops h _ _ (omega arith)) in
     λ i. record { tag = a i; first = b i; second = c i; third = d i }
 
 here : (e : Entry) (ts ops : List ℕ) → Fits e → entry_at (e.tag ∷ ts) (operand_bytes e ++ ops) 0 ≡ e
 here e ts ops f =
-    λ i. record { tag = e.tag; first = sum32 e.first f.first i; second = sum32 e.second f.second i; third = sum64 e.third f.third i }
+    λ i. record { tag = e.tag; first = number_back 4 e.first f.first i; second = number_back 4 e.second f.second i; third = number_back 8 e.third f.third i }
 
 -- the entries whose tags and operands stand at the front
 pub entries_back : (es : List Entry) (r s : List ℕ) → Fit es → entries (tags es ++ r) (flat_map operand_bytes es ++ s) (length es) ≡ es
@@ -65,9 +45,6 @@ entries_back (e ∷ es) r s f =
 pub length_operands : (es : List Entry) → length (flat_map operand_bytes es) ≡ 16 * length es
 length_operands [] = refl
 length_operands (e ∷ es) = length-append (operand_bytes e) (flat_map operand_bytes es) ∙ omega (arith, length_operands es)
-
-whole : (x : ℕ) → x < 65536 → x % 256 + x / 256 % 256 * 256 ≡ x
-whole x h = omega arith
 
 -- the entries of a front fit where those of the table do
 pub fit_take : (es : List Entry) (k : ℕ) → Fit es → Fit (take k es)
@@ -108,10 +85,10 @@ module _ (T M : List Entry) where
       ∙ entries_back M (JT ++ JM) [] f
 
   pub types_told_back : length T < 65536 → types_told (image T M) ≡ length T
-  types_told_back h = whole (length T) h
+  types_told_back h = number_back 2 (length T) h
 
   pub terms_told_back : length M < 65536 → terms_told (image T M) ≡ length M
-  terms_told_back h = whole (length M) h
+  terms_told_back h = number_back 2 (length M) h
 
   pub length_image : length (image T M) ≡ image_length (length T) (length M)
   length_image =

@@ -1,4 +1,3 @@
-pub mod Digits
 pub mod Decoded
 pub mod Encoded
 pub mod Trips

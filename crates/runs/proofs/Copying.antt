@@ -1,14 +1,16 @@
 -- What a copy writes, by the entry's tag. Assumes nothing.
-use Rattle.std.proofs.Common.{◌≡◌, ℕ, suc, ◌+◌, ◌<◌, ◌≤◌, true, false, cond, List, [], ◌∷◌, ◌++◌, length, get_or, sym, refl, ap, ◌∙◌, subst, add-one, arith, lt-ltb}
+use Rattle.std.proofs.Common.{◌≡◌, ℕ, suc, ◌+◌, ◌<◌, ◌≤◌, Bool, true, false, cond, List, [], ◌∷◌, ◌++◌, length, get_or, sym, refl, ap, ◌∙◌, subst, add-one, arith, lt-ltb}
 use mathlib.Core.Bool.{false≢true}
 use Rattle.std.proofs.lemmas.Bool.{le-ltb, and_parts}
 use Rattle.tables.specs.declared.entry.Entry.{Entry}
+use Rattle.tables.specs.Entries.{binds}
 use Rattle.machine.specs.Labelled.{constants, variables, Head, none, leafs, ones, twos, head, entry_one, entry_two, Tree, stray, leaf, one, two, label, tree, inside, beside, closed}
 use Rattle.machine.specs.Plans.{old, new_one, new_two, Written, write, free, replace}
 use Rattle.machine.specs.Theorems.{rooted, Lower}
 use Rattle.machine.proofs.Closing.{inside_suc, beside_suc}
+use Rattle.runs.specs.declared.copy.Putting.{Putting}
 use Rattle.runs.specs.Reach.{no_entry, reach_of, Tagged, Ground}
-use Rattle.runs.specs.Copy.{copied, Copiable, names, first_within, second_within, renewal}
+use Rattle.runs.specs.Copy.{copied, Copiable, names, within, first_within, second_within, renewal}
 use Rattle.runs.proofs.Tags.{made, by_tag, tree_at, lower_at, tagged_at}
 use Rattle.runs.proofs.Reaching.{free_is}
 use Rattle.runs.proofs.Laying.{over}
@@ -63,6 +65,14 @@ label_rooted : (e : Entry) (i : ℕ) (t u : Tree) → Tagged e → label (rooted
 label_rooted e i t u g =
     by_tag (λ x. label (rooted i t u (head x)) ≡ i)
     (λ f s t. refl) (λ f s t. refl) (λ f s t. refl) (λ f s t. refl) (λ f s t. refl) (λ f s t. refl) (λ f s t. refl) (λ f s t. refl) (λ f s t. refl) (λ f s t. refl) (λ f s t. refl) e g
+
+-- one binder deeper at most
+pub within_le : (t j d : ℕ) → within t j d ≤ d + 1
+within_le t j d = at_most (binds t j)
+  where
+    at_most : (b : Bool) → cond b (d + 1) d ≤ d + 1
+    at_most true = omega arith
+    at_most false = omega arith
 
 pub label_at : (us : List Entry) (i : ℕ) → Ground us → i < length us → label (tree us i) ≡ i
 label_at us i g l =
@@ -136,22 +146,37 @@ arity_two (leafs h) a b = absurd (a refl)
 arity_two (ones h) a b = absurd (b refl)
 arity_two (twos h) a b = refl
 
-module _ (us : List Entry) (rs : List ℕ) (d w i : ℕ) (e : Entry) (C : Copiable us rs d w i) (p : get_or us i no_entry ≡ e) where
+module _ (P : Putting) (d i : ℕ) (C : Copiable P.used.terms.now d i) where
+  abbrev us : List Entry
+  us = P.used.terms.now
+
+  abbrev rs : List ℕ
+  rs = P.used.reach.now
+
+  abbrev w : ℕ
+  w = P.with
+
+  abbrev G : Ground us
+  G = P.used.ground
+
+  abbrev e : Entry
+  e = get_or us i no_entry
+
   tagged : Tagged e
-  tagged = tagged_at us i e C.ground C.here p
+  tagged = tagged_at us i e G C.here refl
 
   root : tree us i ≡ rooted i (tree us e.first) (tree us e.second) (head e)
-  root = tree_at us i e C.ground C.here p
+  root = tree_at us i e G C.here refl
 
   arity_e : names e.tag ≡ arity (head e)
   arity_e = arity_is e tagged
 
   pub free_no : get_or rs i 0 ≤ d → free d (tree us i) ≡ false
-  free_no h = let k = C.known i C.here in free_is d (tree us i) C.scoped ∙ le-ltb d (reach_of (tree us i)) (omega arith)
+  free_no h = let k = P.used.known i C.here in free_is d (tree us i) C.scoped ∙ le-ltb d (reach_of (tree us i)) (omega arith)
 
   free_root : d < get_or rs i 0 → free d (rooted i (tree us e.first) (tree us e.second) (head e)) ≡ true
   free_root h =
-      let k = C.known i C.here in
+      let k = P.used.known i C.here in
       sym (ap (free d) root) ∙ (free_is d (tree us i) C.scoped ∙ lt-ltb d (reach_of (tree us i)) (omega arith))
 
   closed_root : closed (suc d) (rooted i (tree us e.first) (tree us e.second) (head e)) ≡ true
@@ -159,22 +184,22 @@ module _ (us : List Entry) (rs : List ℕ) (d w i : ℕ) (e : Entry) (C : Copiab
 
   pub shared : (b : ℕ) → get_or rs i 0 ≤ d → copied us b d w i ≡ record { entries = []; place = i }
   shared b h =
-      ap (write b) (replace_unfree d (tree us w) (tree us i) (free_no h)) ∙ ap (λ k. record { entries = []; place = k }) (label_at us i C.ground C.here)
+      ap (write b) (replace_unfree d (tree us w) (tree us i) (free_no h)) ∙ ap (λ k. record { entries = []; place = k }) (label_at us i G C.here)
 
   pub leafy : (b : ℕ) → d < get_or rs i 0 → names e.tag ≡ 0 → copied us b d w i ≡ record { entries = []; place = w }
   leafy b h z =
       ap (λ t. write b (replace d (tree us w) t)) root
       ∙ (ap (write b) (leaf_plan (head e) i (tree us e.first) (tree us e.second) d (tree us w) (sym arity_e ∙ z) (free_root h))
-      ∙ ap (λ k. record { entries = []; place = k }) (label_at us w C.ground C.there))
+      ∙ ap (λ k. record { entries = []; place = k }) (label_at us w G P.there))
 
   pub first_lower : (names e.tag ≡ 0 → ⊥) → e.first < i
-  first_lower z = lower_first (head e) i e (λ q. z (arity_e ∙ q)) (lower_at us i e C.ground C.here p)
+  first_lower z = lower_first (head e) i e (λ q. z (arity_e ∙ q)) (lower_at us i e G C.here refl)
 
   pub operands_two : (names e.tag ≡ 0 → ⊥) → (names e.tag ≡ 1 → ⊥) → names e.tag ≡ 2
   operands_two y z = arity_e ∙ arity_two (head e) (λ q. y (arity_e ∙ q)) (λ q. z (arity_e ∙ q))
 
   pub second_lower : names e.tag ≡ 2 → e.second < i
-  second_lower z = lower_second (head e) i e (sym arity_e ∙ z) (lower_at us i e C.ground C.here p)
+  second_lower z = lower_second (head e) i e (sym arity_e ∙ z) (lower_at us i e G C.here refl)
 
   depth₁ : (d₁ : ℕ) → d₁ ≡ first_within e.tag d → within₁ (head e) d ≡ d₁
   depth₁ d₁ q = sym (q ∙ within₁_is e d tagged)
@@ -182,28 +207,22 @@ module _ (us : List Entry) (rs : List ℕ) (d w i : ℕ) (e : Entry) (C : Copiab
   depth₂ : (d₂ : ℕ) → d₂ ≡ second_within e.tag d → within₂ (head e) d ≡ d₂
   depth₂ d₂ q = sym (q ∙ within₂_is e d tagged)
 
-  pub first_copiable : (d₁ : ℕ) → d₁ ≡ first_within e.tag d → (names e.tag ≡ 0 → ⊥) → Copiable us rs d₁ w e.first
+  pub first_copiable : (d₁ : ℕ) → d₁ ≡ first_within e.tag d → (names e.tag ≡ 0 → ⊥) → Copiable us d₁ e.first
   first_copiable d₁ q z =
       let l = first_lower z in
       let h = C.here in
       record {
-        ground = C.ground;
-        known = C.known;
         here = omega arith;
-        there = C.there;
         scoped = subst (λ (k : ℕ). closed (suc k) (tree us e.first) ≡ true) (depth₁ d₁ q)
             (scoped_first (head e) i (tree us e.first) (tree us e.second) d (λ q. z (arity_e ∙ q)) closed_root);
       }
 
-  pub second_copiable : (d₂ : ℕ) → d₂ ≡ second_within e.tag d → names e.tag ≡ 2 → Copiable us rs d₂ w e.second
+  pub second_copiable : (d₂ : ℕ) → d₂ ≡ second_within e.tag d → names e.tag ≡ 2 → Copiable us d₂ e.second
   second_copiable d₂ q z =
       let l = second_lower z in
       let h = C.here in
       record {
-        ground = C.ground;
-        known = C.known;
         here = omega arith;
-        there = C.there;
         scoped = subst (λ (k : ℕ). closed (suc k) (tree us e.second) ≡ true) (depth₂ d₂ q)
             (scoped_second (head e) i (tree us e.first) (tree us e.second) d (sym arity_e ∙ z) closed_root);
       }

@@ -1,5 +1,5 @@
 -- What a turn appends is grounded. Assumes nothing.
-use Rattle.std.proofs.Common.{◌≡◌, ℕ, zero, suc, ◌+◌, ◌<◌, ◌≤◌, true, List, [], ◌∷◌, ◌++◌, length, get_or, take, drop, sym, refl, ap, ◌∙◌, subst, ⊎_elim, append_assoc, arith, length-append, length-take-le, take-take, take_at}
+use Rattle.std.proofs.Common.{◌≡◌, ℕ, zero, suc, ◌+◌, ◌<◌, ◌≤◌, true, List, [], ◌∷◌, ◌++◌, length, get_or, take, drop, Ok, sym, refl, ap, ◌∙◌, subst, ⊎_elim, append_assoc, arith, length-append, length-take-le, take-take, take_at}
 use Rattle.machine.proofs.Unfolding.{trees_stay_lem}
 use Rattle.runs.specs.Copy.{laid}
 use Rattle.std.proofs.lemmas.List.{length_push, get_or_push, get_or_append_left, take-append-drop}
@@ -16,7 +16,7 @@ use Rattle.machine.proofs.Keeping.{step_held}
 use Rattle.machine.proofs.Agreeing.{turns_close_lem}
 use Rattle.runs.specs.Reach.{no_entry, Tagged, Ground, Known}
 use Rattle.runs.specs.Table.{TurnIs, Live}
-use Rattle.runs.specs.declared.turn.Turned.TheVariants.{Moves}
+use Rattle.runs.specs.declared.turn.Moved.{Moved}
 use Rattle.runs.proofs.Laying.{laid_take}
 
 abbrev pub LowPlan : ℕ → Plan → Type 0
@@ -135,15 +135,16 @@ turns_ground m r us c new k G cl q =
     let g = ground_by us (step m r (tree us c)) new k G h q in
     (g.0, g.1, turns_close_lem m r (record { used = us; current = c }) new k cl q)
 
--- a tree is the same in a longer part of a table
+-- a tree is the same in the first part of a table
+pub tree_prefix : (us : List Entry) (m k : ℕ) → m ≤ length us → k < m → tree us k ≡ tree (take m us) k
+tree_prefix us m k h q =
+    let a = length-take-le m us h in
+    ap (λ (x : List Entry). tree x k) (sym (take-append-drop m us)) ∙ trees_stay_lem (take m us) (drop m us) k (omega arith)
+
 pub tree_longer : (es : List Entry) (m n k : ℕ) → m ≤ n → n ≤ length es → k < m → tree (take n es) k ≡ tree (take m es) k
 tree_longer es m n k h l q =
-    let us : List Entry = take n es in
-    let a = length-take-le n es l in
-    let t : take m us ≡ take m es = take-take m n es h in
-    let b = length-take-le m us (omega arith) in
-    ap (λ (x : List Entry). tree x k) (sym (take-append-drop m us))
-    ∙ (trees_stay_lem (take m us) (drop m us) k (omega arith) ∙ ap (λ (x : List Entry). tree x k) t)
+    let b = length-take-le n es l in
+    tree_prefix (take n es) m k (omega arith) q ∙ ap (λ (x : List Entry). tree x k) (take-take m n es h)
 
 -- what was written is the rest of the used entries
 pub take_laid : (es : List Entry) (u : ℕ) (new : List Entry) → u ≤ length es → take (u + length new) (laid es u new) ≡ take u es ++ new
@@ -152,33 +153,33 @@ take_laid es u new h =
     ap (take (u + length new)) (sym (append_assoc (take u es) new (drop (u + length new) es)))
     ∙ take_at (take u es ++ new) (drop (u + length new) es) (u + length new) (length-append (take u es) new ∙ ap (λ (k : ℕ). k + length new) a)
 
-module _ (m : Meaning) (r : ℕ) (es fs : List Entry) (rs : List ℕ) (u c : ℕ) (L : Live es rs u c) (k n : ℕ) (T : TurnIs m r es fs u c (Moves k n)) where
-  used_is : take n fs ≡ take u es ++ T.0
+module _ (m : Meaning) (r : ℕ) (es fs : List Entry) (rs : List ℕ) (u c : ℕ) (L : Live es rs u c) (x : Moved) (T : TurnIs m r es fs u c (Ok x)) where
+  used_is : take x.used fs ≡ take u es ++ T.0
   used_is = let l = L.low in ap (λ (j : ℕ). take j fs) T.3 ∙ (ap (take (u + length T.0)) T.2 ∙ take_laid es u T.0 l)
 
-  after : Ground (take u es ++ T.0) × (k < length (take u es ++ T.0)) × (closed 0 (tree (take u es ++ T.0) k) ≡ true)
-  after = turns_ground m r (take u es) c T.0 k L.ground L.shut T.1
+  after : Ground (take u es ++ T.0) × (x.current < length (take u es ++ T.0)) × (closed 0 (tree (take u es ++ T.0) x.current) ≡ true)
+  after = turns_ground m r (take u es) c T.0 x.current L.ground L.shut T.1
 
-  pub moved_ground : Ground (take n fs)
+  pub moved_ground : Ground (take x.used fs)
   moved_ground = subst Ground (sym used_is) after.0
 
-  pub moved_known : Known (take u fs) rs
-  moved_known =
-      let l = L.low in
-      let P : List Entry → Type 0 = λ x. Known x rs in
-      subst P (sym (ap (take u) T.2 ∙ laid_take es u T.0 u (omega arith) l)) L.known
-
-  pub moved_more : u ≤ n
+  pub moved_more : u ≤ x.used
   moved_more = omega (arith, T.3)
 
-  pub moved_live : (qs : List ℕ) → length fs ≡ length es → length qs ≡ length rs → Known (take n fs) qs → Live fs qs n k
+  pub moved_known : Known (take u (take x.used fs)) rs
+  moved_known =
+      let l = L.low in
+      let P : List Entry → Type 0 = λ y. Known y rs in
+      subst P (sym (take-take u x.used fs moved_more ∙ (ap (take u) T.2 ∙ laid_take es u T.0 u (omega arith) l))) L.known
+
+  pub moved_live : (qs : List ℕ) → length fs ≡ length es → length qs ≡ length rs → Known (take x.used fs) qs → Live fs qs x.used x.current
   moved_live qs same keep K =
       let l = L.low in
       let a = L.reaching in
       let b = length-take-le u es l in
       let d = length-append (take u es) T.0 in
       let h = after.1 in
-      let C : List Entry → Type 0 = λ x. closed 0 (tree x k) ≡ true in
+      let C : List Entry → Type 0 = λ y. closed 0 (tree y x.current) ≡ true in
       record {
         ground = moved_ground;
         known = K;

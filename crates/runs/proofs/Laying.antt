@@ -1,10 +1,11 @@
 -- Entries laid into a table from a place on. Assumes nothing.
-use Rattle.std.proofs.Common.{◌≡◌, ℕ, ◌+◌, ◌<◌, ◌≤◌, List, [], ◌∷◌, ◌++◌, length, take, drop, set, sym, ap, ◌∙◌, append_assoc, add-zero, add_assoc, add-one, arith, length-append, length-take-le, take-take, drop-drop, take_at, drop_at}
+use Rattle.std.proofs.Common.{◌≡◌, ℕ, ◌+◌, ◌<◌, ◌≤◌, List, [], ◌∷◌, ◌++◌, length, take, drop, set, sym, ap, ◌∙◌, append_assoc, add-zero, add_assoc, refl, add-one, arith, length-append, length-take-le, take-take, drop-drop, take_at, drop_at}
 use lib.Seq.{take-append-le, set_split}
 use Rattle.std.proofs.lemmas.List.{take-append-drop}
 use Rattle.tables.specs.declared.entry.Entry.{Entry}
 use Rattle.machine.specs.Plans.{Written}
-use Rattle.runs.specs.Copy.{laid, renewal}
+use Rattle.runs.specs.declared.copy.Copied.{Copied}
+use Rattle.runs.specs.Copy.{laid, fresh, Wrote, renewal}
 
 pub laid_nil : (es : List Entry) (u : ℕ) → laid es u [] ≡ es
 laid_nil es u = ap (λ k. take u es ++ drop k es) (add-zero u) ∙ take-append-drop u es
@@ -36,24 +37,33 @@ pub set_laid : (es : List Entry) (n : ℕ) (x : Entry) → n < length es → set
 set_laid es n x h = set_split es n x h ∙ ap (λ k. take n es ++ (x ∷ drop k es)) (sym (add-one n))
 
 -- nothing is written
-pub still : (es : List Entry) (u k : ℕ) (v : Written) → v ≡ record { entries = []; place = k } → (es ≡ laid es u v.entries) × (k ≡ v.place) × (u ≡ u + length v.entries)
-still es u k v e =
-    (sym (ap (λ z. laid es u z.entries) e ∙ laid_nil es u), sym (ap (λ z. z.place) e), sym (ap (λ z. u + length z.entries) e ∙ add-zero u))
+pub still : (es : List Entry) (f k : ℕ) (w : Written) → w ≡ record { entries = []; place = k } → Wrote es es f w (record { place = k; filled = f })
+still es f k w e = record {
+  table = sym (ap (λ z. laid es f z.entries) e ∙ laid_nil es f);
+  place = sym (ap (λ z. z.place) e);
+  filled = sym (ap (λ z. f + length z.entries) e ∙ add-zero f);
+}
 
+-- one entry is written
+pub appended : (es : List Entry) (f b : ℕ) (x : Entry) → f < length es → Wrote es (set es f x) f (fresh b x) (record { place = b; filled = f + 1 })
+appended es f b x h = record { table = set_laid es f x h; place = refl; filled = omega arith }
+
+-- one after another
+pub joined : (es es₁ es₂ : List Entry) (f : ℕ) (v w x : Written) (a c : Copied) → f ≤ length es → Wrote es es₁ f v a → Wrote es₁ es₂ a.filled w c →
+    x ≡ record { entries = v.entries ++ w.entries; place = w.place } → Wrote es es₂ f x c
+joined es es₁ es₂ f v w x a c h V W q = record {
+  table = W.table ∙ (ap (λ (z : List Entry). laid z a.filled w.entries) V.table ∙ (ap (λ (k : ℕ). laid (laid es f v.entries) k w.entries) V.filled ∙ (laid_laid es f v.entries w.entries h ∙ ap (λ (z : Written). laid es f z.entries) (sym q))));
+  place = W.place ∙ sym (ap (λ (z : Written). z.place) q);
+  filled = let n = ap (λ (z : Written). length z.entries) q in let m = length-append v.entries w.entries in let y = W.filled in let z = V.filled in omega arith;
+}
+
+-- an entry over what was written
 abbrev pub over : ℕ → Entry → List Entry → ℕ → ℕ → Written
 over b e xs i j = record { entries = xs ++ (renewal e i j ∷ []); place = b + length xs }
 
--- an entry is written after those of xs
-pub put : (es es₁ : List Entry) (u : ℕ) (e : Entry) (i j n : ℕ) (xs : List Entry) (v : Written) → v ≡ over u e xs i j → u + length v.entries ≤ length es → es₁ ≡ laid es u xs → length es₁ ≡ length es → n ≡ u + length xs →
-    (set es₁ n (renewal e i j) ≡ laid es u v.entries) × (n ≡ v.place) × (n + 1 ≡ u + length v.entries)
-put es es₁ u e i j n xs v q room t same at =
-    let x : Entry = renewal e i j in
-    let total : length v.entries ≡ length xs + 1 = ap (λ z. length z.entries) q ∙ length-append xs (x ∷ []) in
-    let fits : n < length es₁ = omega arith in (
-      set_laid es₁ n x fits ∙ (ap (λ z. laid z n (x ∷ [])) t ∙ (ap (λ k. laid (laid es u xs) k (x ∷ [])) at ∙ (laid_laid es u xs (x ∷ []) (omega arith) ∙ ap (λ z. laid es u z.entries) (sym q)))),
-      at ∙ sym (ap (λ z. z.place) q),
-      omega arith,
-    )
+pub over_is : (b : ℕ) (e x : Entry) (xs : List Entry) (i j n : ℕ) → x ≡ renewal e i j → n ≡ b + length xs → over b e xs i j ≡ record { entries = xs ++ (x ∷ []); place = n }
+over_is b e x xs i j n r q =
+    ap (λ (y : Entry). record { entries = xs ++ (y ∷ []); place = b + length xs }) (sym r) ∙ ap (λ (m : ℕ). record { entries = xs ++ (x ∷ []); place = m }) (sym q)
 
 -- beyond what is written the table is as it was
 pub drop_laid : (es : List Entry) (u : ℕ) (new : List Entry) → u ≤ length es → drop (u + length new) (laid es u new) ≡ drop (u + length new) es

@@ -1,16 +1,17 @@
 -- What a step writes along its path. Assumes nothing.
-use Rattle.std.proofs.Common.{◌≡◌, ℕ, zero, suc, ◌+◌, ◌<◌, ◌≤◌, List, [], ◌∷◌, ◌++◌, length, get_or, take, set, sym, refl, ap, ◌∙◌, subst, arith, length-append, length-take-le, get_or-take}
+use Rattle.std.proofs.Common.{◌≡◌, ℕ, zero, suc, ◌+◌, ◌<◌, ◌≤◌, List, [], ◌∷◌, ◌++◌, length, get_or, sym, refl, ap, ◌∙◌, subst, add-zero, arith, length-append}
 use Rattle.tables.specs.declared.entry.Entry.{Entry}
 use Rattle.machine.specs.Labelled.{Head, none, leafs, ones, twos, head, entry_two, Tree, tree, label}
 use Rattle.machine.specs.Plans.{Plan, old, Written, write}
 use Rattle.machine.proofs.Growing.{append-nil}
 use Rattle.runs.specs.declared.find.Act.{Act}
-use Rattle.runs.specs.declared.find.Act.TheVariants.{Place, Unit, Share}
-use Rattle.runs.specs.Reach.{no_entry, Ground, Known}
-use Rattle.runs.specs.Copy.{laid, places, names, renewal, Copiable}
+use Rattle.runs.specs.declared.find.Act.TheVariants.{Unit, Share}
+use Rattle.runs.specs.declared.copy.Copied.{Copied}
+use Rattle.runs.specs.Reach.{no_entry, Ground}
+use Rattle.runs.specs.Copy.{places, names, renewal, fresh, Wrote}
 use Rattle.runs.specs.Find.{act_plan, wrap, along, ActFits, PathFits}
 use Rattle.runs.proofs.Tags.{lower_at, tagged_at}
-use Rattle.runs.proofs.Laying.{over, put, set_laid, still}
+use Rattle.runs.proofs.Laying.{over, over_is, joined, still}
 use Rattle.runs.proofs.Copying.{arity, arity_is, renewed, renewed_is, lower_second, label_at}
 
 wrap_write : (H : Head) (b : ℕ) (p : Plan) (u : Tree) (k : ℕ) → (arity H ≡ 0 → ⊥) → (arity H ≡ 2 → label u ≡ k) →
@@ -58,64 +59,60 @@ module _ (us : List Entry) (G : Ground us) where
       let w = wrap_places (head e) (along us n e.first a) (tree us e.second) (λ y. f.1 (ar ∙ y)) in
       (omega (arith, ih.0), ih.1)
 
-pub place_fits : (us : List Entry) (rs : List ℕ) (b w : ℕ) → Ground us → Known us rs → ActFits us (Place b w) → Copiable us rs 0 w b
-place_fits us rs b w G K f = record { ground = G; known = K; here = f.0; there = f.1; scoped = f.2 }
-
--- at the table
-module _ (es : List Entry) (base u : ℕ) (G : Ground (take base es)) (bu : base ≤ u) (n k i : ℕ) (a : Act) (q : n ≡ suc k) (f : PathFits (take base es) n i a)
-    (room : u + length (write u (along (take base es) n i a)).entries ≤ length es) where
-  abbrev us : List Entry
-  us = take base es
-
+-- into the free places
+module _ (us : List Entry) (G : Ground us) (es : List Entry) (f n k i : ℕ) (a : Act) (q : n ≡ suc k) (F : PathFits us n i a)
+    (room : f + length (write (length us + f) (along us n i a)).entries ≤ length es) where
   abbrev e : Entry
-  e = get_or es i no_entry
+  e = get_or us i no_entry
 
-  fits : (i < length us) × (names (get_or us i no_entry).tag ≡ 0 → ⊥) × PathFits us k (get_or us i no_entry).first a
-  fits = path_more us G n k i a (get_or us i no_entry) q refl f
+  abbrev b : ℕ
+  b = length us + f
 
-  pub way_low : i < base
-  way_low = let s = length-take-le base es (omega arith) in let l = fits.0 in omega arith
+  fits : (i < length us) × (names e.tag ≡ 0 → ⊥) × PathFits us k e.first a
+  fits = path_more us G n k i a e q refl F
 
-  p : get_or us i no_entry ≡ e
-  p = get_or-take base es i no_entry way_low
-
-  fits_e : (i < length us) × (names e.tag ≡ 0 → ⊥) × PathFits us k e.first a
-  fits_e = path_more us G n k i a e q p f
+  pub way_here : i < length us
+  way_here = fits.0
 
   pub way_fits : PathFits us k e.first a
-  way_fits = fits_e.2
+  way_fits = fits.2
 
   abbrev inner : Written
-  inner = write u (along us k e.first a)
+  inner = write b (along us k e.first a)
 
-  whole : write u (along us n i a) ≡ over u e inner.entries inner.place e.second
-  whole = along_more us G u n k i a e q p fits_e.0 fits_e.1
+  whole : write b (along us n i a) ≡ over b e inner.entries inner.place e.second
+  whole = along_more us G b n k i a e q refl fits.0 fits.1
 
-  pub way_room : u + length inner.entries + 1 ≤ length es
+  pub way_room : f + length inner.entries + 1 ≤ length es
   way_room =
       let s = ap (λ v. length v.entries) whole in
       let l = length-append inner.entries (renewal e inner.place e.second ∷ []) in
       omega arith
 
-  pub way_done : (es₁ : List Entry) (c m : ℕ) (x : Entry) → es₁ ≡ laid es u inner.entries → length es₁ ≡ length es → c ≡ inner.place → m ≡ u + length inner.entries → x ≡ renewal e c e.second →
-      (set es₁ m x ≡ laid es u (write u (along us n i a)).entries) × (m ≡ (write u (along us n i a)).place) × (m + 1 ≡ u + length (write u (along us n i a)).entries)
-  way_done es₁ c m x t same y z r =
-      let s = put es es₁ u e c e.second m inner.entries (write u (along us n i a)) (whole ∙ ap (λ (j : ℕ). over u e inner.entries j e.second) (sym y)) room t same z in
-      (ap (λ y. set es₁ m y) r ∙ s.0, s.1, s.2)
+  pub way_done : (es₁ es₂ : List Entry) (c z : Copied) (x : Entry) → Wrote es es₁ f inner c → x ≡ renewal e c.place e.second → Wrote es₁ es₂ c.filled (fresh (length us + c.filled) x) z →
+      Wrote es es₂ f (write b (along us n i a)) z
+  way_done es₁ es₂ c z x A r X =
+      let m = A.filled in
+      let l = way_room in
+      joined es es₁ es₂ f inner (fresh (length us + c.filled) x) (write b (along us n i a)) c z (omega arith) A X
+      (whole ∙ over_is b e x inner.entries inner.place e.second (length us + c.filled) (r ∙ ap (λ (y : ℕ). renewal e y e.second) A.place) (omega arith))
 
 -- a unit, and what is shared
-pub unit_done : (es us : List Entry) (u k : ℕ) (a : Act) → Ground us → a ≡ Unit k → ActFits us a → u + length (write u (act_plan us a)).entries ≤ length es →
-    (set es u (record { tag = 23; first = k; second = 0; third = 0 }) ≡ laid es u (write u (act_plan us a)).entries) × (u ≡ (write u (act_plan us a)).place) × (u + 1 ≡ u + length (write u (act_plan us a)).entries)
-unit_done es us u k a G q f room =
-    let x : Entry = record { tag = 23; first = k; second = 0; third = 0 } in
-    let l : k < length us = subst (ActFits us) q f in
-    let w : write u (act_plan us a) ≡ record { entries = x ∷ []; place = u + 0 } =
-    ap (λ (y : Act). write u (act_plan us y)) q ∙ ap (λ (j : ℕ). record { entries = record { tag = 23; first = j; second = 0; third = 0 } ∷ []; place = u + 0 }) (label_at us k G l) in
-    let s : length (write u (act_plan us a)).entries ≡ 1 = ap (λ v. length v.entries) w in
-    (set_laid es u x (omega arith) ∙ ap (λ (v : Written). laid es u v.entries) (sym w), (let y = ap (λ (v : Written). v.place) w in omega arith), omega arith)
+module _ (us : List Entry) (G : Ground us) (es : List Entry) (f k : ℕ) (a : Act) (fit : ActFits us a) where
+  unit_write : a ≡ Unit k → write (length us + f) (act_plan us a) ≡ fresh (length us + f) (record { tag = 23; first = k; second = 0; third = 0 })
+  unit_write q =
+      let l : k < length us = subst (ActFits us) q fit in
+      ap (λ (y : Act). write (length us + f) (act_plan us y)) q
+      ∙ (ap (λ (j : ℕ). record { entries = record { tag = 23; first = j; second = 0; third = 0 } ∷ []; place = length us + f + 0 }) (label_at us k G l)
+      ∙ ap (λ (p : ℕ). record { entries = record { tag = 23; first = k; second = 0; third = 0 } ∷ []; place = p }) (add-zero (length us + f)))
 
-pub share_done : (es us : List Entry) (u k : ℕ) (a : Act) → Ground us → a ≡ Share k → ActFits us a →
-    (es ≡ laid es u (write u (act_plan us a)).entries) × (k ≡ (write u (act_plan us a)).place) × (u ≡ u + length (write u (act_plan us a)).entries)
-share_done es us u k a G q f =
-    let l : k < length us = subst (ActFits us) q f in
-    still es u k (write u (act_plan us a)) (ap (λ (y : Act). write u (act_plan us y)) q ∙ ap (λ (j : ℕ). record { entries = []; place = j }) (label_at us k G l))
+  pub unit_room : a ≡ Unit k → f + length (write (length us + f) (act_plan us a)).entries ≤ length es → f < length es
+  unit_room q room = let s : length (write (length us + f) (act_plan us a)).entries ≡ 1 = ap (λ v. length v.entries) (unit_write q) in omega arith
+
+  pub unit_done : (fs : List Entry) (c : Copied) → a ≡ Unit k → Wrote es fs f (fresh (length us + f) (record { tag = 23; first = k; second = 0; third = 0 })) c → Wrote es fs f (write (length us + f) (act_plan us a)) c
+  unit_done fs c q W = subst (λ (w : Written). Wrote es fs f w c) (sym (unit_write q)) W
+
+  pub share_done : a ≡ Share k → Wrote es es f (write (length us + f) (act_plan us a)) (record { place = k; filled = f })
+  share_done q =
+      let l : k < length us = subst (ActFits us) q fit in
+      still es f k (write (length us + f) (act_plan us a)) (ap (λ (y : Act). write (length us + f) (act_plan us y)) q ∙ ap (λ (j : ℕ). record { entries = []; place = j }) (label_at us k G l))

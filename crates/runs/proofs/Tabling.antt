@@ -1,103 +1,96 @@
 -- A copy at the table, step by step. Assumes nothing.
-use Rattle.std.proofs.Common.{◌≡◌, ℕ, ◌+◌, ◌<◌, ◌≤◌, List, [], ◌∷◌, ◌++◌, length, get_or, take, set, sym, refl, ap, ◌∙◌, subst, ⊎_elim, arith, length-append, length-take-le, get_or-take}
+use Rattle.std.proofs.Common.{◌≡◌, ℕ, ◌+◌, ◌<◌, ◌≤◌, List, [], ◌∷◌, ◌++◌, length, get_or, refl, ap, ◌∙◌, ⊎_elim, arith, length-append}
 use Rattle.std.proofs.lemmas.Bool.{cases_eq}
 use Rattle.tables.specs.declared.entry.Entry.{Entry}
 use Rattle.machine.specs.Plans.{Written}
+use Rattle.runs.specs.declared.copy.Copied.{Copied}
+use Rattle.runs.specs.declared.copy.Putting.{Putting}
 use Rattle.runs.specs.Reach.{no_entry}
-use Rattle.runs.specs.Copy.{laid, copied, Copiable, names, first_within, second_within, renewal}
-use Rattle.runs.proofs.Laying.{laid_take, laid_laid, still, over, put}
-use Rattle.runs.proofs.Copying.{leafy, first_lower, operands_two, second_lower, first_copiable, second_copiable, single, double}
+use Rattle.runs.specs.Copy.{copied, fresh, Wrote, Copiable, names, first_within, second_within, renewal}
+use Rattle.runs.proofs.Laying.{still, joined, over, over_is}
+use Rattle.runs.proofs.Copying.{shared, leafy, operands_two, single, double}
 
-module _ (es : List Entry) (rs : List ℕ) (base d w i u : ℕ) (C : Copiable (take base es) rs d w i) (bu : base ≤ u)
-    (room : u + length (copied (take base es) u d w i).entries ≤ length es) where
+module _ (P : Putting) (d i : ℕ) (C : Copiable P.used.terms.now d i) (es : List Entry) (f : ℕ)
+    (room : f + length (copied P.used.terms.now (length P.used.terms.now + f) d P.with i).entries ≤ length es) where
   abbrev us : List Entry
-  us = take base es
+  us = P.used.terms.now
+
+  abbrev rs : List ℕ
+  rs = P.used.reach.now
+
+  abbrev w : ℕ
+  w = P.with
+
+  abbrev b : ℕ
+  b = length us + f
 
   abbrev e : Entry
-  e = get_or es i no_entry
+  e = get_or us i no_entry
 
-  size : length us ≡ base
-  size = length-take-le base es (omega arith)
+  abbrev whole_w : Written
+  whole_w = copied us b d w i
 
-  p : get_or us i no_entry ≡ e
-  p = let h = C.here in let s = size in get_or-take base es i no_entry (omega arith)
+  pub shares : get_or rs i 0 ≤ d → Wrote es es f whole_w (record { place = i; filled = f })
+  shares h = still es f i whole_w (shared P d i C b h)
 
-  pub at_base : i < base
-  at_base = let h = C.here in let s = size in omega arith
-
-  pub with_still : d < get_or rs i 0 → names e.tag ≡ 0 → (es ≡ laid es u (copied us u d w i).entries) × (w ≡ (copied us u d w i).place) × (u ≡ u + length (copied us u d w i).entries)
-  with_still h z = still es u w (copied us u d w i) (leafy us rs d w i e C p u h z)
-
-  pub first_low : (names e.tag ≡ 0 → ⊥) → e.first < i
-  first_low z = first_lower us rs d w i e C p z
-
-  pub two : (names e.tag ≡ 0 → ⊥) → (names e.tag ≡ 1 → ⊥) → names e.tag ≡ 2
-  two y z = operands_two us rs d w i e C p y z
-
-  pub second_low : names e.tag ≡ 2 → e.second < i
-  second_low z = second_lower us rs d w i e C p z
-
-  pub first_may : (d₁ : ℕ) → d₁ ≡ first_within e.tag d → (names e.tag ≡ 0 → ⊥) → Copiable us rs d₁ w e.first
-  first_may d₁ q z = first_copiable us rs d w i e C p d₁ q z
+  pub puts : d < get_or rs i 0 → names e.tag ≡ 0 → Wrote es es f whole_w (record { place = w; filled = f })
+  puts h z = still es f w whole_w (leafy P d i C b h z)
 
   abbrev one_w : ℕ → Written
-  one_w d₁ = copied us u d₁ w e.first
+  one_w d₁ = copied us b d₁ w e.first
 
-  length_over : (xs : List Entry) (k j : ℕ) → length (over u e xs k j).entries ≡ length xs + 1
+  length_over : (xs : List Entry) (k j : ℕ) → length (over b e xs k j).entries ≡ length xs + 1
   length_over xs k j = length-append xs (renewal e k j ∷ [])
 
-  pub first_room : (d₁ : ℕ) → d < get_or rs i 0 → (names e.tag ≡ 0 → ⊥) → d₁ ≡ first_within e.tag d → u + length (one_w d₁).entries + 1 ≤ length es
+  pub first_room : (d₁ : ℕ) → d < get_or rs i 0 → (names e.tag ≡ 0 → ⊥) → d₁ ≡ first_within e.tag d → f + length (one_w d₁).entries + 1 ≤ length es
   first_room d₁ h z q =
       ⊎_elim
-      (λ o. let s = ap (λ v. length v.entries) (single us rs d w i e C p u d₁ h o q) in let t = length_over (one_w d₁).entries (one_w d₁).place 0 in omega arith)
+      (λ o. let s = ap (λ v. length v.entries) (single P d i C b d₁ h o q) in let t = length_over (one_w d₁).entries (one_w d₁).place 0 in omega arith)
       (λ n.
-      let v : Written = copied us (u + length (one_w d₁).entries) (second_within e.tag d) w e.second in
-      let s = ap (λ v. length v.entries) (double us rs d w i e C p u d₁ (second_within e.tag d) v h (two z n) q refl refl) in
+      let v : Written = copied us (b + length (one_w d₁).entries) (second_within e.tag d) w e.second in
+      let o = operands_two P d i C z n in
+      let s = ap (λ v. length v.entries) (double P d i C b d₁ (second_within e.tag d) v h o q refl refl) in
       let t = length_over ((one_w d₁).entries ++ v.entries) (one_w d₁).place v.place in
       let k = length-append (one_w d₁).entries v.entries in
       omega arith)
       (cases_eq (names e.tag) 1)
 
-  pub one_done : (d₁ : ℕ) (es₁ : List Entry) (a n : ℕ) (x : Entry) → d < get_or rs i 0 → names e.tag ≡ 1 → d₁ ≡ first_within e.tag d →
-      es₁ ≡ laid es u (one_w d₁).entries → length es₁ ≡ length es → a ≡ (one_w d₁).place → n ≡ u + length (one_w d₁).entries → x ≡ renewal e a 0 →
-      (set es₁ n x ≡ laid es u (copied us u d w i).entries) × (n ≡ (copied us u d w i).place) × (n + 1 ≡ u + length (copied us u d w i).entries)
-  one_done d₁ es₁ a n x h o q t same k m r =
-      let s = put es es₁ u e a 0 n (one_w d₁).entries (copied us u d w i)
-      (single us rs d w i e C p u d₁ h o q ∙ ap (λ y. over u e (one_w d₁).entries y 0) (sym k)) room t same m in
-      (ap (λ y. set es₁ n y) r ∙ s.0, s.1, s.2)
+  -- after the first operand
+  module _ (d₁ : ℕ) (es₁ : List Entry) (a : Copied) (h : d < get_or rs i 0) (q₁ : d₁ ≡ first_within e.tag d) (A : Wrote es es₁ f (one_w d₁) a) where
+    pub one_done : (es₂ : List Entry) (c : Copied) (x : Entry) → names e.tag ≡ 1 → x ≡ renewal e a.place 0 → Wrote es₁ es₂ a.filled (fresh (length us + a.filled) x) c → Wrote es es₂ f whole_w c
+    one_done es₂ c x o r X =
+        let k = A.filled in
+        joined es es₁ es₂ f (one_w d₁) (fresh (length us + a.filled) x) whole_w a c (omega arith) A X
+        (single P d i C b d₁ h o q₁
+        ∙ over_is b e x (one_w d₁).entries (one_w d₁).place 0 (length us + a.filled) (r ∙ ap (λ (y : ℕ). renewal e y 0) A.place) (omega arith))
 
-  -- the second operand, after the first
-  module _ (d₁ d₂ : ℕ) (es₁ : List Entry) (a n : ℕ) (h : d < get_or rs i 0) (o : names e.tag ≡ 2) (q₁ : d₁ ≡ first_within e.tag d) (q₂ : d₂ ≡ second_within e.tag d)
-      (t : es₁ ≡ laid es u (one_w d₁).entries) (same : length es₁ ≡ length es) (k : a ≡ (one_w d₁).place) (m : n ≡ u + length (one_w d₁).entries) where
-    us_same : take base es₁ ≡ us
-    us_same = ap (take base) t ∙ laid_take es u (one_w d₁).entries base bu (omega arith)
+    -- and the second
+    module _ (d₂ : ℕ) (o : names e.tag ≡ 2) (q₂ : d₂ ≡ second_within e.tag d) where
+      abbrev two_w : Written
+      two_w = copied us (length us + a.filled) d₂ w e.second
 
-    abbrev two_w : Written
-    two_w = copied (take base es₁) n d₂ w e.second
+      two_is : two_w ≡ copied us (b + length (one_w d₁).entries) d₂ w e.second
+      two_is = let k = A.filled in let n : length us + a.filled ≡ b + length (one_w d₁).entries = omega arith in ap (λ (y : ℕ). copied us y d₂ w e.second) n
 
-    two_is : two_w ≡ copied us (u + length (one_w d₁).entries) d₂ w e.second
-    two_is = ap (λ (y : List Entry). copied y n d₂ w e.second) us_same ∙ ap (λ (y : ℕ). copied us y d₂ w e.second) m
+      whole : whole_w ≡ over b e ((one_w d₁).entries ++ two_w.entries) (one_w d₁).place two_w.place
+      whole = double P d i C b d₁ d₂ two_w h o q₁ q₂ two_is
 
-    whole : copied us u d w i ≡ over u e ((one_w d₁).entries ++ two_w.entries) (one_w d₁).place two_w.place
-    whole = double us rs d w i e C p u d₁ d₂ two_w h o q₁ q₂ two_is
+      pub second_room : length es₁ ≡ length es → a.filled + length two_w.entries + 1 ≤ length es₁
+      second_room same =
+          let s = ap (λ v. length v.entries) whole in
+          let l = length_over ((one_w d₁).entries ++ two_w.entries) (one_w d₁).place two_w.place in
+          let j = length-append (one_w d₁).entries two_w.entries in
+          let k = A.filled in
+          omega arith
 
-    pub second_may : Copiable (take base es₁) rs d₂ w e.second
-    second_may = subst (λ (y : List Entry). Copiable y rs d₂ w e.second) (sym us_same) (second_copiable us rs d w i e C p d₂ q₂ o)
-
-    pub second_room : n + length two_w.entries + 1 ≤ length es₁
-    second_room =
-        let s = ap (λ v. length v.entries) whole in
-        let l = length_over ((one_w d₁).entries ++ two_w.entries) (one_w d₁).place two_w.place in
-        let j = length-append (one_w d₁).entries two_w.entries in
-        omega arith
-
-    pub two_done : (es₂ : List Entry) (b bn : ℕ) (x : Entry) → es₂ ≡ laid es₁ n two_w.entries → length es₂ ≡ length es₁ → b ≡ two_w.place → bn ≡ n + length two_w.entries → x ≡ renewal e a b →
-        (set es₂ bn x ≡ laid es u (copied us u d w i).entries) × (bn ≡ (copied us u d w i).place) × (bn + 1 ≡ u + length (copied us u d w i).entries)
-    two_done es₂ b bn x t₂ same₂ k₂ m₂ r =
-        let xs : List Entry = (one_w d₁).entries ++ two_w.entries in
-        let j = length-append (one_w d₁).entries two_w.entries in
-        let table : es₂ ≡ laid es u xs =
-        t₂ ∙ (ap (λ (y : List Entry). laid y n two_w.entries) t ∙ (ap (λ (y : ℕ). laid (laid es u (one_w d₁).entries) y two_w.entries) m ∙ laid_laid es u (one_w d₁).entries two_w.entries (omega arith))) in
-        let s = put es es₂ u e a b bn xs (copied us u d w i)
-        (whole ∙ (ap (λ (y : ℕ). over u e xs y two_w.place) (sym k) ∙ ap (λ (y : ℕ). over u e xs a y) (sym k₂))) room table (same₂ ∙ same) (omega arith) in
-        (ap (λ y. set es₂ bn y) r ∙ s.0, s.1, s.2)
+      pub two_done : (es₂ es₃ : List Entry) (c z : Copied) (x : Entry) → Wrote es₁ es₂ a.filled two_w c → x ≡ renewal e a.place c.place → Wrote es₂ es₃ c.filled (fresh (length us + c.filled) x) z →
+          Wrote es es₃ f whole_w z
+      two_done es₂ es₃ c z x B r X =
+          let xs : List Entry = (one_w d₁).entries ++ two_w.entries in
+          let v : Written = record { entries = xs; place = two_w.place } in
+          let V : Wrote es es₂ f v c = joined es es₁ es₂ f (one_w d₁) two_w v a c (omega arith) A B refl in
+          let k = V.filled in
+          joined es es₂ es₃ f v (fresh (length us + c.filled) x) whole_w c z (omega arith) V X
+          (whole
+          ∙ over_is b e x xs (one_w d₁).place two_w.place (length us + c.filled)
+          (r ∙ (ap (λ (y : ℕ). renewal e y c.place) A.place ∙ ap (λ (y : ℕ). renewal e (one_w d₁).place y) B.place)) (omega arith))

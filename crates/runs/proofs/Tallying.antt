@@ -1,11 +1,12 @@
 -- How many entries a copy takes. Assumes nothing.
-use Rattle.std.proofs.Common.{◌≡◌, ℕ, ◌+◌, ◌<◌, ◌≤◌, List, [], ◌∷◌, ◌++◌, length, get_or, take, sym, refl, ap, ◌∙◌, arith, length-append, length-take-le, get_or-take}
+use Rattle.std.proofs.Common.{◌≡◌, ℕ, ◌+◌, ◌<◌, ◌≤◌, List, [], ◌∷◌, ◌++◌, length, get_or, sym, refl, ap, ◌∙◌, arith, length-append}
 use Rattle.tables.specs.declared.entry.Entry.{Entry}
 use Rattle.machine.specs.Labelled.{entry_one, entry_two}
 use Rattle.machine.specs.Plans.{Plan, old, new_one, new_two, Written, write}
 use Rattle.runs.specs.Reach.{no_entry}
 use Rattle.runs.specs.Copy.{copied, places, count_of, Copiable, names, first_within, second_within, renewal}
-use Rattle.runs.proofs.Copying.{shared, leafy, first_lower, operands_two, second_lower, first_copiable, second_copiable, single, double}
+use Rattle.runs.specs.declared.copy.Putting.{Putting}
+use Rattle.runs.proofs.Copying.{shared, leafy, single, double}
 
 pub length_places : (b : ℕ) (p : Plan) → length (write b p).entries ≡ places p
 length_places b (old t) = refl
@@ -25,49 +26,31 @@ length_places b (new_two h p q) =
 pub length_copied : (us : List Entry) (b d w i : ℕ) → length (copied us b d w i).entries ≡ count_of us d w i
 length_copied us b d w i = length_places b _
 
-module _ (es : List Entry) (rs : List ℕ) (base d w i : ℕ) (C : Copiable (take base es) rs d w i) (low : base ≤ length es) where
+module _ (P : Putting) (d i : ℕ) (C : Copiable P.used.terms.now d i) where
   abbrev us : List Entry
-  us = take base es
+  us = P.used.terms.now
+
+  abbrev rs : List ℕ
+  rs = P.used.reach.now
+
+  abbrev w : ℕ
+  w = P.with
 
   abbrev e : Entry
-  e = get_or es i no_entry
-
-  size : length us ≡ base
-  size = length-take-le base es low
-
-  p : get_or us i no_entry ≡ e
-  p = let h = C.here in let s = size in get_or-take base es i no_entry (omega arith)
-
-  pub place_low : i < base
-  place_low = let h = C.here in let s = size in omega arith
+  e = get_or us i no_entry
 
   pub none_shared : get_or rs i 0 ≤ d → count_of us d w i ≡ 0
-  none_shared h = sym (length_copied us 0 d w i) ∙ ap (λ v. length v.entries) (shared us rs d w i e C p 0 h)
+  none_shared h = sym (length_copied us 0 d w i) ∙ ap (λ v. length v.entries) (shared P d i C 0 h)
 
   pub none_leaf : d < get_or rs i 0 → names e.tag ≡ 0 → count_of us d w i ≡ 0
-  none_leaf h z = sym (length_copied us 0 d w i) ∙ ap (λ v. length v.entries) (leafy us rs d w i e C p 0 h z)
-
-  pub low_first : (names e.tag ≡ 0 → ⊥) → e.first < i
-  low_first z = first_lower us rs d w i e C p z
-
-  pub both : (names e.tag ≡ 0 → ⊥) → (names e.tag ≡ 1 → ⊥) → names e.tag ≡ 2
-  both y z = operands_two us rs d w i e C p y z
-
-  pub low_second : names e.tag ≡ 2 → e.second < i
-  low_second z = second_lower us rs d w i e C p z
-
-  pub may_first : (d₁ : ℕ) → d₁ ≡ first_within e.tag d → (names e.tag ≡ 0 → ⊥) → Copiable us rs d₁ w e.first
-  may_first d₁ q z = first_copiable us rs d w i e C p d₁ q z
-
-  pub may_second : (d₂ : ℕ) → d₂ ≡ second_within e.tag d → names e.tag ≡ 2 → Copiable us rs d₂ w e.second
-  may_second d₂ q z = second_copiable us rs d w i e C p d₂ q z
+  none_leaf h z = sym (length_copied us 0 d w i) ∙ ap (λ v. length v.entries) (leafy P d i C 0 h z)
 
   pub count_one : (d₁ : ℕ) → d < get_or rs i 0 → names e.tag ≡ 1 → d₁ ≡ first_within e.tag d → count_of us d w i ≡ count_of us d₁ w e.first + 1
   count_one d₁ h z q =
       let v : Written = copied us 0 d₁ w e.first in
       let a = length_copied us 0 d w i in
       let b = length_copied us 0 d₁ w e.first in
-      let s = ap (λ v. length v.entries) (single us rs d w i e C p 0 d₁ h z q) in
+      let s = ap (λ v. length v.entries) (single P d i C 0 d₁ h z q) in
       let l = length-append v.entries (renewal e v.place 0 ∷ []) in
       omega arith
 
@@ -79,7 +62,7 @@ module _ (es : List Entry) (rs : List ℕ) (base d w i : ℕ) (C : Copiable (tak
       let a = length_copied us 0 d w i in
       let b = length_copied us 0 d₁ w e.first in
       let c = length_copied us (0 + length v.entries) d₂ w e.second in
-      let s = ap (λ v. length v.entries) (double us rs d w i e C p 0 d₁ d₂ x h z q₁ q₂ refl) in
+      let s = ap (λ v. length v.entries) (double P d i C 0 d₁ d₂ x h z q₁ q₂ refl) in
       let k = length-append v.entries x.entries in
       let l = length-append (v.entries ++ x.entries) (renewal e v.place x.place ∷ []) in
       omega arith

@@ -1,7 +1,7 @@
 -- Entries that pass are ground, and a reach of 0 tells a closed tree. Assumes nothing.
 use Rattle.std.proofs.Common.{◌≡◌, ℕ, zero, suc, ◌+◌, ◌-◌, ◌<◌, ◌≤◌, Bool, true, false, ◌&&◌, eqb, ltb, leb, List, length, get_or, take, sym, refl, ap, ◌∙◌, subst, ⊎_elim, true≢false, arith, length-take-le, get_or-take}
 use Rattle.std.proofs.lemmas.List.{get_or_past}
-use Rattle.std.proofs.lemmas.Bool.{and_parts, and_from, ltb-true, lt-ltb, leb-true, le-leb, eqb-true, cases_Bool, cases_eq}
+use Rattle.std.proofs.lemmas.Bool.{and_parts, and_from, ltb-true, lt-ltb, leb-true, le-leb, lt-leb, eqb-true, cases_Bool, cases_eq}
 use Rattle.tables.specs.declared.entry.Entry.{Entry}
 use Rattle.tables.specs.Entries.{term_tag, role_fits}
 use Rattle.machine.specs.Labelled.{constants, variables, One, abstracts, fixes, guards, checks, units, raises, restricts, Two, applies, lets, head, Tree, stray, leaf, one, two, trees, tree, inside, beside, closed}
@@ -12,7 +12,6 @@ use Rattle.runs.specs.Usable.{plain_operands, passes, all_pass, usable}
 use Rattle.runs.specs.Table.{Live}
 use Rattle.runs.proofs.Tags.{by_tag, tree_at}
 use Rattle.runs.proofs.Reaching.{closed_reach}
-use Rattle.runs.proofs.Grounding.{tree_longer}
 
 tagged : (e : Entry) → term_tag e.tag ≡ true → Tagged e
 tagged e h = let b = and_parts (leb 16 e.tag) (leb e.tag 26) h in (leb-true 16 e.tag b.0, leb-true e.tag 26 b.1)
@@ -84,13 +83,15 @@ module _ (role : ℕ → Bool) where
       ⊎_elim (λ q. subst (λ (x : ℕ). passes role (get_or es x no_entry) x ≡ true) (sym q) p.0)
       (λ q. passed_by es k (i + 1) p.1 j (omega arith) (omega arith)) (cases_eq j i)
 
--- the reach of the next entry
-pub next_reach : (es : List Entry) (rs : List ℕ) (u i : ℕ) → u ≤ length es → i < u → Ground (take (i + 1) es) → ((k : ℕ) → k < i → get_or rs k 0 ≡ reach_of (tree (take u es) k)) →
-    (v : ℕ) → v ≡ reach_of (tree (take (i + 1) es) i) → v ≡ reach_of (tree (take u es) i)
-next_reach es rs u i l h G K v e = e ∙ sym (ap reach_of (tree_longer es (i + 1) u i (omega arith) l (omega arith)))
+  -- in the first part of a table
+  take_each : (es : List Entry) (u k i : ℕ) → i + k ≤ u → all_pass role (take u es) k i ≡ all_pass role es k i
+  take_each es u zero i h = refl
+  take_each es u (suc k) i h =
+      ap (λ (e : Entry). passes role e i && all_pass role (take u es) k (i + 1)) (get_or-take u es i no_entry (omega arith))
+      ∙ ap (λ (b : Bool). passes role (get_or es i no_entry) i && b) (take_each es u k (i + 1) (omega arith))
 
-pub below_known : (es : List Entry) (rs : List ℕ) (u i : ℕ) → u ≤ length es → i < u → ((k : ℕ) → k < i → get_or rs k 0 ≡ reach_of (tree (take u es) k)) → (k : ℕ) → k < i → get_or rs k 0 ≡ reach_of (tree (take (i + 1) es) k)
-below_known es rs u i l h K k q = K k q ∙ ap reach_of (tree_longer es (i + 1) u k (omega arith) l (omega arith))
+  pub pass_take : (es : List Entry) (u : ℕ) → u ≤ length es → all_pass role (take u es) (length (take u es)) 0 ≡ all_pass role es u 0
+  pass_take es u l = ap (λ (n : ℕ). all_pass role (take u es) n 0) (length-take-le u es l) ∙ take_each es u u 0 (omega arith)
 
 -- a whole tree whose reach is at most d is closed below d binders
 outside_back : (h : One) (r d : ℕ) → outside h r ≤ d → r ≤ inside h d
@@ -148,7 +149,23 @@ module _ (us : List Entry) (G : Ground us) where
   pub open_past : (c : ℕ) → length us ≤ c → closed 0 (tree us c) ≡ false
   open_past c l = ap (closed 0) (get_or_past (trees us) c stray (subst (λ (n : ℕ). n ≤ c) (sym (length_trees us)) l))
 
--- the question as a whole, where the table is not too long and the used entries pass
+-- the question as a whole: too long a table, too many used, one that does not pass
+module _ (role : ℕ → Bool) (es : List Entry) (u c : ℕ) where
+  pub too_long : 16384 < length es → false ≡ usable role es u c
+  too_long h = sym (ap (λ (b : Bool). b && leb u (length es) && all_pass role es u 0 && closed 0 (tree (take u es) c)) (lt-leb (length es) 16384 h))
+
+  pub too_many : length es ≤ 16384 → length es < u → false ≡ usable role es u c
+  too_many s h =
+      sym (ap (λ (b : Bool). b && leb u (length es) && all_pass role es u 0 && closed 0 (tree (take u es) c)) (le-leb (length es) 16384 s)
+      ∙ ap (λ (b : Bool). b && all_pass role es u 0 && closed 0 (tree (take u es) c)) (lt-leb u (length es) h))
+
+  pub none_pass : length es ≤ 16384 → u ≤ length es → all_pass role es u 0 ≡ false → false ≡ usable role es u c
+  none_pass s l h =
+      sym (ap (λ (b : Bool). b && leb u (length es) && all_pass role es u 0 && closed 0 (tree (take u es) c)) (le-leb (length es) 16384 s)
+      ∙ (ap (λ (b : Bool). b && all_pass role es u 0 && closed 0 (tree (take u es) c)) (le-leb u (length es) l)
+      ∙ ap (λ (b : Bool). b && closed 0 (tree (take u es) c)) h))
+
+-- and where the table is not too long and the used entries pass
 module _ (role : ℕ → Bool) (es : List Entry) (u c : ℕ) (short : length es ≤ 16384) (low : u ≤ length es) (pass : all_pass role es u 0 ≡ true) where
   used_ground : Ground (take u es)
   used_ground = ground_by role es u low (λ k l. passed_by role es u 0 pass k (omega arith) (omega arith))

@@ -1,10 +1,11 @@
 -- A copy at the table. Assumes nothing.
-use Rattle.std.specs.Prelude.{◌≡◌, ℕ, suc, ◌+◌, ◌<◌, true, cond, ◌||◌, List, ◌++◌, length, take, drop, ◌==◌}
+use Rattle.std.specs.Prelude.{◌≡◌, ℕ, suc, ◌+◌, ◌<◌, true, cond, ◌||◌, List, [], ◌∷◌, ◌++◌, length, take, drop, ◌==◌}
 use Rattle.tables.specs.declared.entry.Entry.{Entry}
 pub use Rattle.tables.specs.Entries.{names}
+use Rattle.tables.specs.Entries.{binds}
+use Rattle.runs.specs.declared.copy.Copied.{Copied}
 use Rattle.machine.specs.Labelled.{tree, closed}
 use Rattle.machine.specs.Plans.{Plan, old, new_one, new_two, Written, write, replace}
-use Rattle.runs.specs.Reach.{Ground, Known}
 
 -- A table with the entries of new from place u on.
 abbrev pub laid : List Entry → ℕ → List Entry → List Entry
@@ -24,21 +25,32 @@ places (new_two h p q) = suc (places p + places q)
 abbrev pub count_of : List Entry → ℕ → ℕ → ℕ → ℕ
 count_of us d w i = places (replace d (tree us w) (tree us i))
 
--- Entry i can be copied at depth d.
-pub record Copiable (us : List Entry) (rs : List ℕ) (d w i : ℕ) : Type 0 where
-  pub ground : Ground us
-  pub known : Known us rs
+-- Entry i can be copied at depth d: no variable is free in it but those of d + 1 binders.
+pub record Copiable (us : List Entry) (d i : ℕ) : Type 0 where
   pub here : i < length us
-  pub there : w < length us
   pub scoped : closed (suc d) (tree us i) ≡ true
 
--- The depth within the first operand, by the tag.
+-- One entry, written to place b.
+abbrev pub fresh : ℕ → Entry → Written
+fresh b e = record { entries = e ∷ []; place = b }
+
+-- The free places es became fs: the entries of w were laid from place f on, and c tells where the whole stands and how many are filled then.
+pub record Wrote (es fs : List Entry) (f : ℕ) (w : Written) (c : Copied) : Type 0 where
+  pub table : fs ≡ laid es f w.entries
+  pub place : c.place ≡ w.place
+  pub filled : c.filled ≡ f + length w.entries
+
+-- The depth within the term of number j, by the tag.
+abbrev pub within : ℕ → ℕ → ℕ → ℕ
+within t j d = cond (binds t j) (d + 1) d
+
+-- The depth within the first operand.
 abbrev pub first_within : ℕ → ℕ → ℕ
-first_within t d = cond (t == 18) (d + 1) d
+first_within t d = within t 0 d
 
 -- The depth within the second.
 abbrev pub second_within : ℕ → ℕ → ℕ
-second_within t d = cond (t == 24) (d + 1) d
+second_within t d = within t 1 d
 
 -- The second operand of a new entry: an abstraction keeps its claim, application and let name j, and else it is 0.
 abbrev pub second_of : Entry → ℕ → ℕ

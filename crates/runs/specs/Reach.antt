@@ -2,8 +2,9 @@
 use Rattle.std.specs.Prelude.{◌≡◌, ℕ, suc, ◌+◌, ◌-◌, ◌<◌, ◌≤◌, max, Bool, true, cond, ◌&&◌, ◌||◌, List, length, get_or, ◌==◌, nat_lt, slice_index, slice_index_or}
 use Rattle.tables.specs.declared.entry.Entry.{Entry}
 pub use Rattle.tables.specs.Entries.{no_entry}
-use Rattle.machine.specs.Labelled.{constants, variables, One, abstracts, fixes, guards, checks, units, raises, restricts, Two, applies, lets, head, Tree, stray, leaf, one, two, tree}
+use Rattle.machine.specs.Labelled.{constants, variables, One, abstracts, fixes, guards, checks, units, raises, restricts, Two, applies, lets, Head, none, leafs, ones, twos, head, Tree, stray, leaf, one, two, tree}
 use Rattle.machine.specs.Theorems.{Lower}
+use Rattle.std.proofs.Props.{props}
 
 -- A reach, seen from outside the binder that the head may be.
 abbrev pub outside : One → ℕ → ℕ
@@ -37,6 +38,16 @@ pub record Ground (es : List Entry) : Type 0 where
   pub tagged : (k : ℕ) → k < length es → Tagged (slice_index_or es k no_entry)
   pub lowered : (k : ℕ) → k < length es → Lower k (slice_index_or es k no_entry) (head (slice_index_or es k no_entry))
   pub small : (k : ℕ) → k < length es → (get_or es k no_entry).tag ≡ 17 → (get_or es k no_entry).first < 1024
+
+-- Any two proofs that operands are lower are one, and so any two that all this holds.
+lower_prop : (i : ℕ) (e : Entry) (h : Head) → IsProp (Lower i e h)
+lower_prop i e none = hlevel props
+lower_prop i e (leafs h) = hlevel props
+lower_prop i e (ones h) = hlevel props
+lower_prop i e (twos h) = hlevel props
+
+pub ground_prop : (es : List Entry) → IsProp (Ground es)
+ground_prop es = hlevel (props, lower_prop)
 
 -- The numbers are the reaches of the entries.
 abbrev pub Known : List Entry → List ℕ → Type 0

@@ -6,7 +6,8 @@ use Rattle.tables.specs.declared.entry.Entry.{Entry}
 use Rattle.tables.specs.declared.entry.Counts.{Counts}
 use Rattle.tables.specs.Asking.{Answer}
 use Rattle.tables.specs.Form.{form}
-use Rattle.machine.specs.declared.condition.Condition.TheVariants.{Going, Finished, RoleFault, ShapeFault, TableFull}
+use Rattle.machine.specs.declared.condition.Condition.{Condition}
+use Rattle.machine.specs.declared.condition.Condition.TheVariants.{Going}
 use Rattle.machine.specs.Conditions.{ends}
 use Rattle.machine.specs.Turns.{Advanced, advance}
 use Rattle.runs.specs.declared.fault.RunFault.{RunFault}
@@ -16,8 +17,7 @@ use Rattle.runs.specs.declared.fault.StartFault.TheVariants as start
 use Rattle.runs.specs.declared.run.Run.{Run}
 use Rattle.runs.specs.declared.run.Look.{Look}
 use Rattle.runs.specs.declared.run.Progress.{Progress}
-use Rattle.runs.specs.declared.turn.Turned.{Turned}
-use Rattle.runs.specs.declared.turn.Turned.TheVariants.{Rests, Moves, Refuses, Misfits, Full}
+use Rattle.runs.specs.declared.turn.Moved.{Moved}
 use Rattle.runs.specs.Table.{state}
 use Rattle.runs.specs.Usable.{usable}
 
@@ -74,15 +74,12 @@ abbrev pub settled : Run → Advanced → Run
 settled x a = record { role = x.role; steps = x.steps + a.made; used = length a.state.used; current = a.state.current; condition = a.condition }
 
 -- A run that has not ended, after a turn.
-abbrev pub moving : Run → Turned → Run
-moving x Rests = record { role = x.role; steps = x.steps; used = x.used; current = x.current; condition = Finished }
-moving x (Moves k n) = record { role = x.role; steps = x.steps + 1; used = n; current = k; condition = Going }
-moving x (Refuses i a c) = record { role = x.role; steps = x.steps; used = x.used; current = x.current; condition = RoleFault i a c }
-moving x (Misfits i) = record { role = x.role; steps = x.steps; used = x.used; current = x.current; condition = ShapeFault i }
-moving x Full = record { role = x.role; steps = x.steps; used = x.used; current = x.current; condition = TableFull }
+abbrev pub moving : Run → Result Moved Condition → Run
+moving x (Ok y) = record { role = x.role; steps = x.steps + 1; used = y.used; current = y.current; condition = Going }
+moving x (Err c) = record { role = x.role; steps = x.steps; used = x.used; current = x.current; condition = c }
 
 -- A run after a turn: one that has ended stays.
-abbrev pub taken : Run → Turned → Run
+abbrev pub taken : Run → Result Moved Condition → Run
 taken x t = cond (ends x.condition) x (moving x t)
 
 -- The run after the call: a refusal leaves it.

@@ -1,29 +1,24 @@
 //! Replacing: the copy of a body with an entry for its variable. It goes over plain terms and knows no scheme.
-ghost use Rattle.std.specs.Prelude.{◌≡◌, ◌+◌, ◌^◌, ◌<◌, ◌≤◌, min, length, take};
-ghost use Rattle.runs.specs.Copy.{Copiable, copied, count_of, first_within, laid, renewal, second_of, second_within, third_of};
+ghost use Rattle.std.specs.Prelude.{◌≡◌, ◌+◌, ◌^◌, ◌<◌, ◌≤◌, min, length};
+ghost use Rattle.runs.specs.Copy.{Copiable, Wrote, copied, count_of, fresh, renewal, second_of, third_of, within};
 
+use crate::reach::Used;
 use tables::entry::Entry;
-use tables::operand::{ABSTRACTION, APPLICATION, GUARD, LET, RAISE, RESTRICT, named_terms};
+use tables::operand::{ABSTRACTION, APPLICATION, GUARD, LET, RAISE, RESTRICT, binds, named_terms};
 
-/// Where a copy stands, and how many places are used after it.
+/// Where what was written stands, and how many free places are filled after it.
 #[derive(Clone, Copy)]
 pub(crate) struct Copied {
     pub place: u32,
-    pub used: u32,
+    pub filled: u32,
 }
 
-fn depth_first(tag: u8, depth: u32) -> u32
+// The depth within the term of that number that an entry names.
+fn depth_within(tag: u8, number: u8, depth: u32) -> u32
     requires { depth + 1 < 2 ^ 32 }
-    ensures { result ≡ first_within tag depth }
+    ensures { result ≡ within tag number depth }
 {
-    if tag == ABSTRACTION { depth + 1 } else { depth }
-}
-
-fn depth_second(tag: u8, depth: u32) -> u32
-    requires { depth + 1 < 2 ^ 32 }
-    ensures { result ≡ second_within tag depth }
-{
-    if tag == LET { depth + 1 } else { depth }
+    if binds(tag, number) { depth + 1 } else { depth }
 }
 
 fn kept_second(e: Entry, other: u32) -> u32
@@ -57,110 +52,80 @@ pub(crate) fn renew(e: Entry, first: u32, other: u32) -> Entry
     }
 }
 
-/// Copies entry `at` of the first `base` ones from place `used` on, with entry `with` for the variable at `depth`.
-/// What does not contain it is shared.
-pub(crate) fn copy_on(
-    terms: &mut [Entry],
-    reach: &[u16],
-    base: u32,
-    at: u32,
-    depth: u32,
-    with: u32,
-    used: u32,
-) -> Copied
-    requires form { (Copiable (take base terms.old) reach.now depth with at) × ((base ≤ used) × (base ≤ length reach.now)) }
-    requires fits { (depth + at + 1 < 2 ^ 32) × (length terms.old < 2 ^ 32) }
-    requires room { used + length (copied (take base terms.old) used depth with at).entries ≤ length terms.old }
-    ensures table { terms.new ≡ laid terms.old used (copied (take base terms.old) used depth with at).entries }
-    ensures place { result.place ≡ (copied (take base terms.old) used depth with at).place }
-    ensures used { result.used ≡ used + length (copied (take base terms.old) used depth with at).entries }
-{
-    if reach[at as usize] as u32 <= depth {
-        return Copied { place: at, used };
-    }
-    let e = terms[at as usize];
-    let n = named_terms(e.tag);
-    if n == 0 {
-        return Copied { place: with, used };
-    }
-    let a = copy_on(
-        terms,
-        reach,
-        base,
-        e.first,
-        depth_first(e.tag, depth),
-        with,
-        used,
-    );
-    if n == 1 {
-        terms[a.used as usize] = renew(e, a.place, 0);
-        return Copied {
-            place: a.used,
-            used: a.used + 1,
-        };
-    }
-    let b = copy_on(
-        terms,
-        reach,
-        base,
-        e.second,
-        depth_second(e.tag, depth),
-        with,
-        a.used,
-    );
-    terms[b.used as usize] = renew(e, a.place, b.place);
-    Copied {
-        place: b.used,
-        used: b.used + 1,
+impl Used<'_> {
+    /// Writes one entry into the next free place.
+    pub(crate) fn append(self, free: &mut [Entry], filled: u32, e: Entry) -> Copied
+        requires room { filled < length free.old }
+        requires fits { length self.terms.now + length free.old < 2 ^ 32 }
+        ensures { Wrote free.old free.new filled (fresh (length self.entry.terms.now + filled) e) result }
+    {
+        free[filled as usize] = e;
+        Copied {
+            place: self.terms.len() as u32 + filled,
+            filled: filled + 1,
+        }
     }
 }
 
-/// How many places the copy takes, or `limit` if it takes more: the count stops there.
-pub(crate) fn count_on(
-    terms: &[Entry],
-    reach: &[u16],
-    base: u32,
-    at: u32,
-    depth: u32,
-    with: u32,
-    limit: u32,
-) -> u32
-    requires form { (Copiable (take base terms.now) reach.now depth with at) × ((base ≤ length terms.now) × (base ≤ length reach.now)) }
-    requires fits { depth + at + 1 < 2 ^ 32 }
-    ensures { result ≡ min limit (count_of (take base terms.now) depth with at) }
-{
-    if limit == 0 {
-        return 0;
+/// What a copy puts in for a variable: one of the used entries.
+#[derive(Clone, Copy)]
+pub(crate) struct Putting<'a> {
+    pub used: Used<'a>,
+    pub with: u32,
+    ghost there: { with < length used.terms.now },
+}
+
+impl Putting<'_> {
+    /// Copies entry `at` into the free places, with what is put in for the variable at `depth`.
+    /// What does not contain the variable is shared.
+    pub(crate) fn copy(self, free: &mut [Entry], at: u32, depth: u32, filled: u32) -> Copied
+        requires form { Copiable self.used.terms.now depth at }
+        requires fits { (depth + at + 1 < 2 ^ 32) × (length self.used.terms.now + length free.old < 2 ^ 32) }
+        requires room { filled + length (copied self.used.terms.now (length self.used.terms.now + filled) depth self.with at).entries ≤ length free.old }
+        ensures { Wrote free.old free.new filled (copied self.entry.used.terms.now (length self.entry.used.terms.now + filled) depth self.entry.with at) result }
+    {
+        if self.used.reach[at as usize] as u32 <= depth {
+            return Copied { place: at, filled };
+        }
+        let e = self.used.terms[at as usize];
+        let n = named_terms(e.tag);
+        if n == 0 {
+            return Copied {
+                place: self.with,
+                filled,
+            };
+        }
+        let a = self.copy(free, e.first, depth_within(e.tag, 0, depth), filled);
+        if n == 1 {
+            return self.used.append(free, a.filled, renew(e, a.place, 0));
+        }
+        let b = self.copy(free, e.second, depth_within(e.tag, 1, depth), a.filled);
+        self.used.append(free, b.filled, renew(e, a.place, b.place))
     }
-    if depth >= reach[at as usize] as u32 {
-        return 0;
+
+    /// How many places the copy takes, or `limit` if it takes more: the count stops there.
+    pub(crate) fn count(self, at: u32, depth: u32, limit: u32) -> u32
+        requires form { Copiable self.used.terms.now depth at }
+        requires fits { depth + at + 1 < 2 ^ 32 }
+        ensures { result ≡ min limit (count_of self.entry.used.terms.now depth self.entry.with at) }
+    {
+        if limit == 0 {
+            return 0;
+        }
+        if depth >= self.used.reach[at as usize] as u32 {
+            return 0;
+        }
+        let e = self.used.terms[at as usize];
+        let n = named_terms(e.tag);
+        if n == 0 {
+            return 0;
+        }
+        let left = limit - 1;
+        let a = self.count(e.first, depth_within(e.tag, 0, depth), left);
+        if n == 1 {
+            return a + 1;
+        }
+        let b = self.count(e.second, depth_within(e.tag, 1, depth), left - a);
+        a + b + 1
     }
-    let e = terms[at as usize];
-    let n = named_terms(e.tag);
-    if n == 0 {
-        return 0;
-    }
-    let left = limit - 1;
-    let a = count_on(
-        terms,
-        reach,
-        base,
-        e.first,
-        depth_first(e.tag, depth),
-        with,
-        left,
-    );
-    if n == 1 {
-        return a + 1;
-    }
-    let b = count_on(
-        terms,
-        reach,
-        base,
-        e.second,
-        depth_second(e.tag, depth),
-        with,
-        left - a,
-    );
-    a + b + 1
 }

@@ -1,9 +1,20 @@
 //! How far the free variables of each used entry reach.
-ghost use Rattle.std.specs.Prelude.{◌≡◌, ◌≤◌, true, length, take};
-ghost use Rattle.runs.specs.Reach.{Ground, Known, lower, step_of};
+ghost use Rattle.std.specs.Prelude.{◌≡◌, ◌+◌, ◌^◌, ◌<◌, ◌≤◌, true, length, take};
+ghost use Rattle.runs.specs.Reach.{Ground, Known, ground_prop, lower, step_of};
 
 use tables::entry::Entry;
 use tables::operand::{ABSTRACTION, APPLICATION, LET, VALUE, VARIABLE};
+
+/// The used entries of a table, which name lower ones, with their reaches. A turn writes none of them.
+#[derive(Clone, Copy)]
+pub(crate) struct Used<'a> {
+    pub terms: &'a [Entry],
+    pub reach: &'a [u16],
+    ghost ground: { Ground terms.now } by { ground_prop terms.now },
+    ghost known: { Known terms.now reach.now },
+    ghost enough: { length terms.now ≤ length reach.now },
+    ghost few: { length terms.now + 1 < 2 ^ 32 },
+}
 
 /// The reach of entry `i`, where those below it are known.
 pub(crate) fn reach_step(e: Entry, i: usize, reach: &[u16]) -> u16
@@ -21,11 +32,12 @@ pub(crate) fn reach_step(e: Entry, i: usize, reach: &[u16]) -> u16
 }
 
 /// Fills in the reaches of the entries from `from` on, where those below are known.
-pub(crate) fn fill(terms: &[Entry], from: usize, used: usize, reach: &mut [u16])
-    requires { (from ≤ used) × ((used ≤ length terms.now) × ((used ≤ length reach.old) × ((Ground (take used terms.now)) × (Known (take from terms.now) reach.old)))) }
-    ensures { Known (take used terms.now) reach.new }
+pub(crate) fn fill(terms: &[Entry], from: usize, reach: &mut [u16])
+    requires { (from ≤ length terms.now) × ((length terms.now ≤ length reach.old) × ((Ground terms.now) × (Known (take from terms.now) reach.old))) }
+    ensures { Known terms.now reach.new }
 {
-    for i in from..used {
+    // Stays: a count from `from` on is plainer than `terms.iter().enumerate().skip(from)`.
+    for i in from..terms.len() {
         reach[i] = reach_step(terms[i], i, reach);
     }
 }

@@ -8,14 +8,15 @@ ghost use Rattle.runs.specs.Table.{Live};
 ghost use Rattle.runs.specs.Went.{Went};
 
 use crate::fault::{RunFault, StartFault};
-use crate::find::{find, idle_by};
-use crate::turn::{Turned, ended_by, turn_live};
+use crate::reach::Used;
+use crate::turn::{Moved, turn_live};
 use crate::usable::usable;
 use machine::condition::Condition;
 use roles::refusal::ask_sound;
 use roles::scheme::Scheme;
 use tables::entry::{Counts, Entry};
 use tables::form::form;
+use tables::operand::ask;
 
 /// A run. There is only one of each: it is neither copied nor made but by a start.
 pub struct Run {
@@ -53,11 +54,7 @@ fn ask_start<S: Scheme>(
     ensures { result ≡ start_asked (S.meaning scheme.now) counts types.now terms.now role }
 {
     form(scheme, counts, types, terms)?;
-    if scheme.is_role(role) {
-        Ok(())
-    } else {
-        Err(StartFault::Role { code: role })
-    }
+    ask(scheme.is_role(role), StartFault::Role { code: role })
 }
 
 /// Starts a run of any well-formed job, as a rehearsal: nothing is checked of its types, and nothing is written.
@@ -97,19 +94,15 @@ impl Run {
     pub fn close(self) -> Look
         ensures { result ≡ seen self }
     {
+        let look = self.look();
         let Run {
             role: _,
-            steps,
-            used,
-            current,
-            condition,
+            steps: _,
+            used: _,
+            current: _,
+            condition: _,
         } = self;
-        Look {
-            steps,
-            used,
-            current,
-            condition,
-        }
+        look
     }
 
     // What an advance asks, in order; then the reaches of the used entries are known.
@@ -126,42 +119,42 @@ impl Run {
         ensures below { is_ok result ≡ true → self.now.steps + budget < 2 ^ 32 }
     {
         ask_sound(scheme)?;
-        if !scheme.is_role(self.role) {
-            return Err(RunFault::Role { code: self.role });
-        }
-        if !usable(scheme, terms, self.used, self.current, reach) {
-            return Err(RunFault::Unusable);
-        }
-        if self.condition.ended() {
-            return Err(RunFault::Ended {
+        ask(
+            scheme.is_role(self.role),
+            RunFault::Role { code: self.role },
+        )?;
+        ask(
+            usable(scheme, terms, self.used, self.current, reach),
+            RunFault::Unusable,
+        )?;
+        ask(
+            !self.condition.ended(),
+            RunFault::Ended {
                 condition: self.condition,
-            });
-        }
-        if budget >= (1 << 32) - self.steps as u64 {
-            return Err(RunFault::Budget {
+            },
+        )?;
+        ask(
+            budget < (1 << 32) - self.steps as u64,
+            RunFault::Budget {
                 steps: self.steps,
                 budget,
-            });
-        }
-        Ok(())
+            },
+        )
     }
 
-    // Takes what a turn met: goes on, ends, or halts for places; a run that has ended stays.
-    fn take(&mut self, met: Turned)
+    // Takes what a turn met: goes on, or ends or halts for places; a run that has ended stays.
+    fn take(&mut self, met: Result<Moved, Condition>)
         requires { self.old.steps + 1 < 2 ^ 32 }
         ensures { self.new ≡ taken self.old met }
     {
         match (self.condition, met) {
-            (Condition::Going | Condition::TableFull, Turned::Moves { current, used }) => {
+            (Condition::Going | Condition::TableFull, Ok(moved)) => {
                 self.steps += 1;
-                self.current = current;
-                self.used = used;
+                self.current = moved.current;
+                self.used = moved.used;
                 self.condition = Condition::Going;
             }
-            (Condition::Going | Condition::TableFull, Turned::Full) => {
-                self.condition = Condition::TableFull;
-            }
-            (Condition::Going | Condition::TableFull, other) => self.condition = ended_by(other),
+            (Condition::Going | Condition::TableFull, Err(condition)) => self.condition = condition,
             _ => {}
         }
     }
@@ -180,11 +173,18 @@ impl Run {
         for made in 0..budget {
             let met = turn_live(scheme, self.role, terms, reach, self.current, self.used);
             self.take(met);
-            if !met.moved() {
+            if met.is_err() {
                 return made;
             }
         }
-        self.condition = idle_by(find(scheme, self.role, terms, self.used, self.current));
+        let used = Used {
+            terms: &terms[..self.used as usize],
+            reach,
+        };
+        self.condition = used
+            .find(scheme, self.role, self.current)
+            .err()
+            .unwrap_or(Condition::Going);
         budget
     }
 

@@ -1,5 +1,5 @@
 //! The question whether a run can go on in a table.
-ghost use Rattle.std.specs.Prelude.{◌≡◌, ◌≤◌, true, length, take};
+ghost use Rattle.std.specs.Prelude.{◌≡◌, ◌^◌, ◌<◌, ◌≤◌, true, length};
 ghost use Rattle.runs.specs.Reach.{Known};
 ghost use Rattle.runs.specs.Table.{Live};
 ghost use Rattle.runs.specs.Usable as spec;
@@ -29,17 +29,16 @@ fn passes<S: Scheme>(scheme: &S, e: Entry, i: u32) -> bool
 }
 
 // Do the used entries pass? Their reaches are filled in on the way.
-fn scan<S: Scheme>(scheme: &S, terms: &[Entry], used: u32, reach: &mut [u16]) -> bool
-    requires { (used ≤ length terms.now) × (used ≤ length reach.old) }
-    ensures passed { result ≡ all_pass (S.meaning scheme.now).role terms.now used 0 }
-    ensures known { result ≡ true → Known (take used terms.now) reach.new }
+fn scan<S: Scheme>(scheme: &S, used: &[Entry], reach: &mut [u16]) -> bool
+    requires { (length used.now ≤ length reach.old) × (length used.now < 2 ^ 32) }
+    ensures passed { result ≡ all_pass (S.meaning scheme.now).role used.now (length used.now) 0 }
+    ensures known { result ≡ true → Known used.now reach.new }
 {
-    for i in 0..used {
-        let e = terms[i as usize];
-        if !passes(scheme, e, i) {
+    for (i, e) in used.iter().enumerate() {
+        if !passes(scheme, *e, i as u32) {
             return false;
         }
-        reach[i as usize] = reach_step(e, i as usize, reach);
+        reach[i] = reach_step(*e, i, reach);
     }
     true
 }
@@ -56,18 +55,11 @@ pub(crate) fn usable<S: Scheme>(
     ensures is { result ≡ spec.usable (S.meaning scheme.now).role terms.now used current }
     ensures live { result ≡ true → Live terms.now reach.new used current }
 {
-    let n = terms.len();
-    if n > 16384 {
+    if terms.len() > 16384
+        || used as usize > terms.len()
+        || !scan(scheme, &terms[..used as usize], reach)
+    {
         return false;
     }
-    if used as usize > n {
-        return false;
-    }
-    if !scan(scheme, terms, used, reach) {
-        return false;
-    }
-    if current >= used {
-        return false;
-    }
-    reach[current as usize] == 0
+    current < used && reach[current as usize] == 0
 }

@@ -1,13 +1,17 @@
 -- A verdict means what its two checks say of the term that the image stands for.
 use Rattle.std.proofs.Common.{◌≡◌, ℕ, zero, suc, ◌+◌, ◌-◌, List, map, length, take, drop, Ok, Err, Result, sym, refl, ap, ◌∙◌, subst, ap₂}
 use Rattle.std.specs.List.{range_with_len}
+use Rattle.std.specs.Result.{MatchResult, IsErrAnd}
 use Rattle.std.proofs.lemmas.List.{take_at}
+use Rattle.std.proofs.lemmas.Result.{err_from_is_err_and}
 use Rattle.roles.specs.Meaning.{Meaning, Lawful}
 use Rattle.calculus.specs.Syntax.{Term}
 use Rattle.calculus.specs.Subtyping.{System, sufficient, necessary}
 use Rattle.tables.specs.declared.entry.Entry.{Entry}
+use Rattle.tables.specs.Entries.{no_entry}
 use Rattle.trees.specs.Trees.{term_of}
-use Rattle.jobs.specs.Asking.{Answer, told, left}
+use Rattle.tables.specs.Asking.{told}
+use Rattle.jobs.specs.Asking.{Answer, left}
 use Rattle.jobs.specs.Image.{types_told, terms_told, types_in, terms_in, entry_at}
 use Rattle.jobs.specs.Reading.{read_asked, counts_told, types_left, terms_left, filled}
 use Rattle.checks.specs.declared.fault.CheckFault.{CheckFault}
@@ -16,6 +20,8 @@ use Rattle.checks.specs.Checking.{check_of}
 use Rattle.checks.specs.Sense.{job_term, Says}
 use Rattle.checks.proofs.Meaning.{check_meant}
 use Rattle.checks.proofs.Repeating.{front_kept}
+use Rattle.station.specs.declared.refusal.Refusal.{Refusal}
+use Rattle.station.specs.declared.refusal.Refusal.TheVariants.{Check}
 use Rattle.station.specs.Sense.{image_term, AnswerMeans, ImageMeans}
 use Rattle.station.specs.Verdicts.{of_check, checked_both, types_blank, terms_blank, after_reading, image_verdict}
 
@@ -23,6 +29,17 @@ says_means : (m : Meaning) (α : System) (e : Term) (a : Result ℕ CheckFault) 
 says_means m α e (Ok b) s = s
 says_means m α e (Err (Typing c)) s = s
 says_means m α e (Err (Form f)) s = tt
+
+-- an answer of a check whose fault is told as a refusal
+pub told_of_check : (a : Result ℕ CheckFault) (r : Result ℕ Refusal) → MatchResult a (λ x. r ≡ Ok x) (λ e. IsErrAnd r (λ y. y ≡ Check e)) → r ≡ of_check a
+told_of_check (Ok b) r h = h
+told_of_check (Err f) r h = let p = err_from_is_err_and r h in p.1 ∙ ap Err p.2
+
+-- the entry that an empty place holds
+pub blank_entry : (e : Entry) → (e.tag ≡ 0) × ((e.first ≡ 0) × ((e.second ≡ 0) × (e.third ≡ 0))) → e ≡ no_entry
+blank_entry e h =
+    let P : ℕ → ℕ → ℕ → ℕ → Entry = λ a b c d. record { tag = a; first = b; second = c; third = d } in
+    ap₂ (λ (a b : ℕ). P a b e.second e.third) h.0 h.1.0 ∙ ap₂ (P 0 0) h.1.1.0 h.1.1.1
 
 length_entries : (tags operands : List ℕ) (n k : ℕ) → length (map (entry_at tags operands) (range_with_len k n)) ≡ n
 length_entries tags operands zero k = refl

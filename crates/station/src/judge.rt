@@ -1,25 +1,16 @@
 //! The verdict on an input.
 ghost use Rattle.std.specs.Prelude.{◌≡◌};
-ghost use Rattle.checks.specs.Sense.{plain};
 ghost use Rattle.station.specs.Sense.{ImageMeans, InputMeans};
-ghost use Rattle.station.specs.Verdicts.{checked_both, image_verdict, of_check, refused, verdict_bytes, verdict_on};
+ghost use Rattle.station.specs.Verdicts.{checked_both, image_verdict, refused, verdict_bytes, verdict_on};
 
 use crate::refusal::Refusal;
 use crate::verdict::Verdict;
 use blocks::read::read_block;
 use checks::check::{check_necessary, check_sufficient};
-use checks::clearance::Clearance;
-use checks::fault::CheckFault;
+use checks::clearance::bound_of;
 use jobs::reader::read;
 use roles::scheme::Scheme;
 use tables::entry::{Counts, Entry};
-
-const NO_ENTRY: Entry = Entry {
-    tag: 0,
-    first: 0,
-    second: 0,
-    third: 0,
-};
 
 // The same refusal by both checks.
 fn refuse(refusal: Refusal) -> Verdict
@@ -31,27 +22,7 @@ fn refuse(refusal: Refusal) -> Verdict
     }
 }
 
-// The answer of a check.
-fn told(answer: Result<u64, CheckFault>) -> Result<u64, Refusal>
-    ensures { result ≡ of_check answer }
-{
-    match answer {
-        Ok(bound) => Ok(bound),
-        Err(fault) => Err(Refusal::Check(fault)),
-    }
-}
-
-// The bound of a clearance, which is given up: the station starts nothing.
-fn give_up(answer: Result<Clearance, CheckFault>) -> Result<u64, CheckFault>
-    ensures { result ≡ plain answer }
-{
-    match answer {
-        Ok(clearance) => Ok(clearance.discard()),
-        Err(fault) => Err(fault),
-    }
-}
-
-// Both checks of a job that was read.
+// Both checks of a job that was read. The clearance is given up: the station starts nothing.
 fn check_both<S: Scheme>(
     scheme: &S,
     counts: Counts,
@@ -60,11 +31,11 @@ fn check_both<S: Scheme>(
 ) -> Verdict
     ensures { result ≡ checked_both (S.meaning scheme.now) counts.types counts.terms types.old terms.now }
 {
-    let sufficient = told(give_up(check_sufficient(scheme, counts, types, terms)));
-    let necessary = told(check_necessary(scheme, counts, types, terms));
+    let sufficient = bound_of(check_sufficient(scheme, counts, types, terms));
+    let necessary = check_necessary(scheme, counts, types, terms);
     Verdict {
-        sufficient,
-        necessary,
+        sufficient: sufficient.map_err(Refusal::from),
+        necessary: necessary.map_err(Refusal::from),
     }
 }
 
@@ -72,11 +43,11 @@ fn check_both<S: Scheme>(
 fn read_and_check<S: Scheme>(scheme: &S, image: &[u8]) -> Verdict
     ensures { result ≡ image_verdict (S.meaning scheme.now) image.now }
 {
-    let mut types = [NO_ENTRY; 1536];
-    let mut terms = [NO_ENTRY; 1024];
+    let mut types = [Entry::default(); 1536];
+    let mut terms = [Entry::default(); 1024];
     match read(scheme, image, &mut types, &mut terms) {
         Ok(counts) => check_both(scheme, counts, &mut types, &terms),
-        Err(fault) => refuse(Refusal::Image(fault)),
+        Err(fault) => refuse(fault.into()),
     }
 }
 
@@ -95,7 +66,7 @@ pub fn verdict(input: &[u8]) -> Verdict
 {
     match read_block(input) {
         Ok((block, image)) => judge_image(&block, image),
-        Err(fault) => refuse(Refusal::Block(fault)),
+        Err(fault) => refuse(fault.into()),
     }
 }
 

@@ -1,6 +1,7 @@
 //! Why an input is refused.
 ghost use Rattle.std.specs.Prelude.{◌≡◌};
 ghost use Rattle.station.specs.Refusals.{number_of, place_of};
+ghost use Rattle.station.specs.declared.refusal.Refusal.TheVariants.{Block, Image, Check};
 
 use blocks::block::BlockFault;
 use checks::fault::CheckFault;
@@ -37,5 +38,29 @@ impl Fault for Refusal {
             Refusal::Image(fault) => fault.place(),
             Refusal::Check(fault) => fault.place(),
         }
+    }
+}
+
+impl From<BlockFault> for Refusal {
+    ghost from_gives = { λ e r. r ≡ Block e };
+
+    fn from(e: BlockFault) -> Refusal {
+        Refusal::Block(e)
+    }
+}
+
+impl From<ImageFault> for Refusal {
+    ghost from_gives = { λ e r. r ≡ Image e };
+
+    fn from(e: ImageFault) -> Refusal {
+        Refusal::Image(e)
+    }
+}
+
+impl From<CheckFault> for Refusal {
+    ghost from_gives = { λ e r. r ≡ Check e };
+
+    fn from(e: CheckFault) -> Refusal {
+        Refusal::Check(e)
     }
 }

@@ -5,6 +5,7 @@ ghost use Rattle.tables.specs.declared.fault.FormFault.TheVariants.{Scheme};
 
 use roles::fault::Fault;
 use roles::scheme::SchemeFault;
+use std::fmt;
 
 /// The first question of form that was answered with no. A place counts from 0 through the types, then the terms.
 #[derive(Clone, Copy, PartialEq, Eq, Debug)]
@@ -59,6 +60,25 @@ impl Fault for FormFault {
             FormFault::Size { place, .. } => place,
             FormFault::Named { place, .. } => place,
             FormFault::Unbound { place } => place,
+        }
+    }
+}
+
+impl fmt::Display for FormFault {
+    fn fmt<W: fmt::Write>(&self, f: &mut fmt::Formatter<W>) -> fmt::Result {
+        match self {
+            FormFault::Scheme(fault) => write!(f, "{fault}"),
+            FormFault::Counts { .. } => write!(
+                f,
+                "there are more than 512 types, no term or more than 1024 terms"
+            ),
+            FormFault::Room { .. } => write!(f, "the tables have too few places or too many"),
+            FormFault::Tag { .. } => write!(f, "the tag is none of its table's"),
+            FormFault::Operands { .. } => write!(f, "the operands are not as the tag asks"),
+            FormFault::Role { .. } => write!(f, "the role code is no role of the scheme"),
+            FormFault::Size { .. } => write!(f, "the type, written out, has more than 4096 parts"),
+            FormFault::Named { .. } => write!(f, "the term is not named exactly once"),
+            FormFault::Unbound { .. } => write!(f, "the variable has no binder"),
         }
     }
 }

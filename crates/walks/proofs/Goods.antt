@@ -1,5 +1,5 @@
 -- What is found of a term names types that are there.
-use Rattle.std.proofs.Common.{◌≡◌, ℕ, ◌<◌, ◌≤◌, Bool, true, false, eqb, List, is_some, Some, None, Option, refl, ◌∙◌, arith}
+use Rattle.std.proofs.Common.{◌≡◌, ℕ, ◌<◌, ◌≤◌, Bool, true, false, eqb, List, is_some, Some, None, Option, Ok, Err, refl, ◌∙◌, arith}
 use mathlib.Core.Bool.{false≢true}
 use Rattle.std.proofs.lemmas.Bool.{eqb-true, and_from}
 use Rattle.roles.specs.Meaning.{Meaning, Lawful}
@@ -8,16 +8,15 @@ use Rattle.calculus.specs.Typing.{permits}
 use Rattle.tables.specs.declared.entry.Entry.{Entry}
 use Rattle.tables.specs.Entries.{at}
 use Rattle.walks.specs.declared.fault.TypingFault.{TypingFault}
-use Rattle.walks.specs.declared.finding.Finding.{Finding}
-use Rattle.walks.specs.declared.finding.Finding.TheVariants.{Refused, Known, New}
+use Rattle.walks.specs.declared.finding.Finding.TheVariants.{Known, New}
 use Rattle.walks.specs.Places.{Low, Grounded}
-use Rattle.walks.specs.Rules.{base_type, function_type, guarded_type, computation_type, role_of, asked, below, applied, fixed, checked, joined, raised, restricted}
+use Rattle.walks.specs.Rules.{Judged, known, fresh, base_type, function_type, guarded_type, computation_type, role_of, asked, below, applied, fixed, checked, joined, raised, restricted}
 
 -- what is found names types that are there
-abbrev pub Good : (ℕ → Bool) → ℕ → Finding → Type 0
-Good role u (Refused c) = Unit {0}
-Good role u (Known x) = x < u
-Good role u (New e) = Low role u e
+abbrev pub Good : (ℕ → Bool) → ℕ → Judged → Type 0
+Good role u (Err c) = Unit {0}
+Good role u (Ok (Known x)) = x < u
+Good role u (Ok (New e)) = Low role u e
 
 module _ (role : ℕ → Bool) (u : ℕ) where
   pub low_base : (k : ℕ) → k ≤ 2 → Low role u (base_type k)
@@ -32,7 +31,7 @@ module _ (role : ℕ → Bool) (u : ℕ) where
   pub low_computation : (a x : ℕ) → x < u → role a ≡ true → Low role u (computation_type a x)
   low_computation a x h r = record { some = omega arith; most = omega arith; kind = λ z. let y : ⊥ = omega arith in absurd y; one = λ _. h; two = λ z. let y : ⊥ = omega arith in absurd y; code = λ _. r }
 
-  good_asked : (b : Bool) (c : TypingFault) (j : Finding) → (b ≡ true → Good role u j) → Good role u (asked b c j)
+  good_asked : (b : Bool) (c : TypingFault) (j : Judged) → (b ≡ true → Good role u j) → Good role u (asked b c j)
   good_asked true c j p = p refl
   good_asked false c j p = tt
 
@@ -58,17 +57,17 @@ module _ (m : Meaning) (L : Lawful m) (α : System) (p : ℕ) (T : List Entry) (
   type_code k h z = (g k h).code (omega arith)
 
   pub good_applied : (f x : ℕ) → f < u → Good m.role u (applied m α p T f x)
-  good_applied f x h = good_asked m.role u (eqb (at T f).tag 2) _ _ (λ z. good_asked m.role u (below m α T x (at T f).first) _ (Known (at T f).second) (λ _. part_two f h (eqb-true (at T f).tag 2 z)))
+  good_applied f x h = good_asked m.role u (eqb (at T f).tag 2) _ _ (λ z. good_asked m.role u (below m α T x (at T f).first) _ (known (at T f).second) (λ _. part_two f h (eqb-true (at T f).tag 2 z)))
 
   pub good_fixed : (x : ℕ) → x < u → Good m.role u (fixed m α p T x)
-  good_fixed x h = good_asked m.role u (eqb (at T x).tag 2) _ _ (λ z. good_asked m.role u (below m α T (at T x).second (at T x).first) _ (Known (at T x).second) (λ _. part_two x h (eqb-true (at T x).tag 2 z)))
+  good_fixed x h = good_asked m.role u (eqb (at T x).tag 2) _ _ (λ z. good_asked m.role u (below m α T (at T x).second (at T x).first) _ (known (at T x).second) (λ _. part_two x h (eqb-true (at T x).tag 2 z)))
 
   pub good_checked : (x : ℕ) → x < u → Good m.role u (checked p T x)
-  good_checked x h = good_asked m.role u (eqb (at T x).tag 3) _ (New (computation_type (at T x).third (at T x).first)) (λ z. let q = eqb-true (at T x).tag 3 z in low_computation m.role u (at T x).third (at T x).first (part_one x h (omega arith)) ((g x h).code (omega arith)))
+  good_checked x h = good_asked m.role u (eqb (at T x).tag 3) _ (fresh (computation_type (at T x).third (at T x).first)) (λ z. let q = eqb-true (at T x).tag 3 z in low_computation m.role u (at T x).third (at T x).first (part_one x h (omega arith)) ((g x h).code (omega arith)))
 
   pub good_joined : (f x : ℕ) → f < u → (at T f).tag ≡ 4 → x < u → Good m.role u (joined m p T f x)
   good_joined f x hf t h =
-      good_asked m.role u (eqb (at T x).tag 4) _ (New (computation_type (role_of (m.join (at T f).third (at T x).third)) (at T x).first))
+      good_asked m.role u (eqb (at T x).tag 4) _ (fresh (computation_type (role_of (m.join (at T f).third (at T x).third)) (at T x).first))
       (λ z.
       let q = eqb-true (at T x).tag 4 z in
       low_computation m.role u _ (at T x).first (part_one x h (omega arith))
@@ -76,7 +75,7 @@ module _ (m : Meaning) (L : Lawful m) (α : System) (p : ℕ) (T : List Entry) (
 
   pub good_raised : (a x : ℕ) → m.role a ≡ true → x < u → Good m.role u (raised m p T a x)
   good_raised a x r h =
-      good_asked m.role u (eqb (at T x).tag 4) _ (New (computation_type (role_of (m.remainder (at T x).third a)) (at T x).first))
+      good_asked m.role u (eqb (at T x).tag 4) _ (fresh (computation_type (role_of (m.remainder (at T x).third a)) (at T x).first))
       (λ z.
       let q = eqb-true (at T x).tag 4 z in
       low_computation m.role u _ (at T x).first (part_one x h (omega arith))
@@ -87,5 +86,5 @@ module _ (m : Meaning) (L : Lawful m) (α : System) (p : ℕ) (T : List Entry) (
       good_asked m.role u (eqb (at T x).tag 4) _ _
       (λ z.
       let q = eqb-true (at T x).tag 4 z in
-      good_asked m.role u (permits m α a (at T x).third) _ (New (computation_type (at T x).third (at T x).first))
+      good_asked m.role u (permits m α a (at T x).third) _ (fresh (computation_type (at T x).third (at T x).first))
       (λ _. low_computation m.role u (at T x).third (at T x).first (part_one x h (omega arith)) (type_code x h q)))

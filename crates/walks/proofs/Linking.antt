@@ -1,5 +1,5 @@
 -- What a walk comes to is what is inferred, and so what the rules give.
-use Rattle.std.proofs.Common.{◌≡◌, ℕ, zero, suc, ◌+◌, ◌-◌, ◌<◌, ◌≤◌, Bool, true, false, cond, ◌&&◌, eqb, List, [], ◌∷◌, length, get_or, take, set, Some, None, Option, sym, refl, ap, ◌∙◌, subst, ap₂, subst₂, ⊎_elim, arith, lit<}
+use Rattle.std.proofs.Common.{◌≡◌, ℕ, zero, suc, ◌+◌, ◌-◌, ◌<◌, ◌≤◌, Bool, true, false, cond, ◌&&◌, eqb, List, [], ◌∷◌, length, get_or, take, set, Some, None, Option, Ok, Err, sym, refl, ap, ◌∙◌, subst, ap₂, subst₂, ⊎_elim, arith, lit<}
 use Rattle.std.proofs.lemmas.List.{get_or-set_same, get_or-set_other, length-set}
 use Rattle.std.proofs.lemmas.Bool.{and_parts, and_from, le-leb, ltb-true, eqb-true, cases_eq}
 use Rattle.roles.specs.Meaning.{Meaning, Lawful}
@@ -19,10 +19,9 @@ use Rattle.trees.proofs.Coding.{types_coded}
 use Rattle.trees.proofs.Unfolding.{term_unfold}
 use Rattle.walks.specs.declared.fault.TypingFault.{TypingFault}
 use Rattle.walks.specs.declared.fault.TypingFault.TheVariants.{NoFunction, Argument, Result, NoComputation}
-use Rattle.walks.specs.declared.finding.Finding.{Finding}
-use Rattle.walks.specs.declared.finding.Finding.TheVariants.{Refused, Known, New}
+use Rattle.walks.specs.declared.finding.Finding.TheVariants.{Known, New}
 use Rattle.walks.specs.Places.{Grounded, Placed, Rooted, Walkable}
-use Rattle.walks.specs.Rules.{base_type, function_type, guarded_type, computation_type, claim_of, asked, applied, fixed, checked_as, checked, joined_as, joined, raised_as, raised, restricted_as, restricted}
+use Rattle.walks.specs.Rules.{Judged, known, fresh, base_type, function_type, guarded_type, computation_type, claim_of, asked, applied, fixed, checked_as, checked, joined_as, joined, raised_as, raised, restricted_as, restricted}
 use Rattle.walks.specs.Sense.{Decides, WalkDecides, TellsSame, WalkAgain}
 use Rattle.walks.specs.Walk.{Walked, going, stopped, and_then, settled, let_rest, walk_by, walk_of}
 use Rattle.walks.proofs.Goods.{Good, low_base, low_function, low_guarded, low_computation, good_applied, good_fixed, good_checked, good_joined, good_raised, good_restricted}
@@ -85,7 +84,7 @@ module _ (m : Meaning) (L : Lawful m) (α : System) (t : ℕ) (T₀ es : List En
   Goal k = (Γ : List ℕ) (T : List Entry) (u : ℕ) → Ctx T u Γ (size_of es k) (term k) → Linked m T u (size_of es k) (infer m α (tys T Γ) (term k)) (walk_of m α t es k Γ T u)
 
   -- the last operand, and then the term
-  one : (f : ℕ) (Γ : List ℕ) (T : List Entry) (u b : ℕ) → size_of es f < b → u + b ≤ length T → Goal f → Ctx T u Γ (size_of es f) (term f) → (F : Ty → Option Ty) (J : List Entry → ℕ → Finding) → ((T' : List Entry) (u' x : ℕ) → Went m T u (size_of es f) (infer m α (tys T Γ) (term f)) T' u' x → Good m.role u' (J T' x) × Judges T' (F (type_of T' x)) (J T' x)) → Linked m T u b (on_some (infer m α (tys T Γ) (term f)) F) (and_then (walk_of m α t es f Γ T u) (λ T u x. settled (J T x) T u))
+  one : (f : ℕ) (Γ : List ℕ) (T : List Entry) (u b : ℕ) → size_of es f < b → u + b ≤ length T → Goal f → Ctx T u Γ (size_of es f) (term f) → (F : Ty → Option Ty) (J : List Entry → ℕ → Judged) → ((T' : List Entry) (u' x : ℕ) → Went m T u (size_of es f) (infer m α (tys T Γ) (term f)) T' u' x → Good m.role u' (J T' x) × Judges T' (F (type_of T' x)) (J T' x)) → Linked m T u b (on_some (infer m α (tys T Γ) (term f)) F) (and_then (walk_of m α t es f Γ T u) (λ T u x. settled (J T x) T u))
   one f Γ T u b s l goal c F J h =
       then_links m T u (size_of es f) b (omega arith) (infer m α (tys T Γ) (term f)) (walk_of m α t es f Γ T u) (goal Γ T u c) F (λ T u x. settled (J T x) T u)
       (λ T' u' x w. let q = h T' u' x w in settled_links m T u (size_of es f) T' u' w.grew (omega arith) (J T' x) q.0 (F (type_of T' x)) q.1 b s)
@@ -102,7 +101,7 @@ module _ (m : Meaning) (L : Lawful m) (α : System) (t : ℕ) (T₀ es : List En
   }
 
   -- the second operand, and then the term
-  two : (T : List Entry) (u a : ℕ) (T' : List Entry) (u' : ℕ) → Grew m T u a T' u' → (s : ℕ) (Γ : List ℕ) (b : ℕ) → b ≡ a + (size_of es s + 1) → u + b ≤ length T → Goal s → Ctx T' u' Γ (size_of es s) (term s) → (F : Ty → Option Ty) (J : List Entry → ℕ → Finding) → ((T'' : List Entry) (u'' x : ℕ) → Went m T' u' (size_of es s) (infer m α (tys T' Γ) (term s)) T'' u'' x → Good m.role u'' (J T'' x) × Judges T'' (F (type_of T'' x)) (J T'' x)) → Linked m T u b (on_some (infer m α (tys T' Γ) (term s)) F) (and_then (walk_of m α t es s Γ T' u') (λ T u x. settled (J T x) T u))
+  two : (T : List Entry) (u a : ℕ) (T' : List Entry) (u' : ℕ) → Grew m T u a T' u' → (s : ℕ) (Γ : List ℕ) (b : ℕ) → b ≡ a + (size_of es s + 1) → u + b ≤ length T → Goal s → Ctx T' u' Γ (size_of es s) (term s) → (F : Ty → Option Ty) (J : List Entry → ℕ → Judged) → ((T'' : List Entry) (u'' x : ℕ) → Went m T' u' (size_of es s) (infer m α (tys T' Γ) (term s)) T'' u'' x → Good m.role u'' (J T'' x) × Judges T'' (F (type_of T'' x)) (J T'' x)) → Linked m T u b (on_some (infer m α (tys T' Γ) (term s)) F) (and_then (walk_of m α t es s Γ T' u') (λ T u x. settled (J T x) T u))
   two T u a T' u' g s Γ b e l goal c F J h =
       subst (λ (z : ℕ). Linked m T u z (on_some (infer m α (tys T' Γ) (term s)) F) (and_then (walk_of m α t es s Γ T' u') (λ T u x. settled (J T x) T u))) (sym e)
       (lift_links m T u a T' u' (size_of es s + 1) _ (and_then (walk_of m α t es s Γ T' u') (λ T u x. settled (J T x) T u)) g
@@ -124,16 +123,16 @@ module _ (m : Meaning) (L : Lawful m) (α : System) (t : ℕ) (T₀ es : List En
     at_value : (f s c : ℕ) → Placed m.role t k (made 16 f s c) → Node k (made 16 f s c)
     unfolding infer
     at_value f s c pl Γ T u x =
-        settled_links m T u 0 T u (grew_none m T u x.gr) (omega (arith, x.long)) (New (base_type f)) (low_base m.role u f (pl.value refl)) (Some (base (kind f))) refl 1 (omega arith)
+        settled_links m T u 0 T u (grew_none m T u x.gr) (omega (arith, x.long)) (fresh (base_type f)) (low_base m.role u f (pl.value refl)) (Some (base (kind f))) refl 1 (omega arith)
 
     at_variable : (f s c : ℕ) → Placed m.role t k (made 17 f s c) → Node k (made 17 f s c)
     unfolding infer
     at_variable f s c pl Γ T u x =
         let b : f < depth_of Γ = ltb-true f (depth_of Γ) x.shut in
-        settled_links m T u 0 T u (grew_none m T u x.gr) (omega (arith, x.long)) (Known (get_or Γ f 0)) (all_at u Γ x.low f b) _ (variable_judges T Γ f b) 1 (omega arith)
+        settled_links m T u 0 T u (grew_none m T u x.gr) (omega (arith, x.long)) (known (get_or Γ f 0)) (all_at u Γ x.low f b) _ (variable_judges T Γ f b) 1 (omega arith)
 
     -- one operand, under the same binders
-    plain : (f : ℕ) → f < k → (Γ : List ℕ) (T : List Entry) (u : ℕ) (e : Term) → Ctx T u Γ (1 + ((0 + size_of es f) + 0)) e → closed (depth_of Γ) (term f) ≡ true → (F : Ty → Option Ty) (J : List Entry → ℕ → Finding) → ((T' : List Entry) (u' y : ℕ) → Went m T u (size_of es f) (infer m α (tys T Γ) (term f)) T' u' y → Good m.role u' (J T' y) × Judges T' (F (type_of T' y)) (J T' y)) → Linked m T u (1 + ((0 + size_of es f) + 0)) (on_some (infer m α (tys T Γ) (term f)) F) (and_then (walk_of m α t es f Γ T u) (λ T u y. settled (J T y) T u))
+    plain : (f : ℕ) → f < k → (Γ : List ℕ) (T : List Entry) (u : ℕ) (e : Term) → Ctx T u Γ (1 + ((0 + size_of es f) + 0)) e → closed (depth_of Γ) (term f) ≡ true → (F : Ty → Option Ty) (J : List Entry → ℕ → Judged) → ((T' : List Entry) (u' y : ℕ) → Went m T u (size_of es f) (infer m α (tys T Γ) (term f)) T' u' y → Good m.role u' (J T' y) × Judges T' (F (type_of T' y)) (J T' y)) → Linked m T u (1 + ((0 + size_of es f) + 0)) (on_some (infer m α (tys T Γ) (term f)) F) (and_then (walk_of m α t es f Γ T u) (λ T u y. settled (J T y) T u))
     plain f l Γ T u e x q F J h =
         one f Γ T u (1 + ((0 + size_of es f) + 0)) (omega arith) (omega (arith, x.long)) (ih f l)
         (record { gr = x.gr; since = x.since; low = x.low; front = x.front; long = omega (arith, x.long); shut = q }) F J h
@@ -145,7 +144,7 @@ module _ (m : Meaning) (L : Lawful m) (α : System) (t : ℕ) (T₀ es : List En
         (subst (λ (y : Ty). Linked m T u SZ (on_some (infer m α (y ∷ tys T Γ) (term f)) (λ z. Some (function y z))) W) (x.front q ql ∙ sym (claim_is α (type_of J₀) E))
         (one f (q ∷ Γ) T u SZ (omega arith) (omega (arith, x.long)) (ih f (pl.low 0 (lit< tt)))
         (record { gr = x.gr; since = x.since; low = (omega (arith, x.since, ql), x.low); front = x.front; long = omega (arith, x.long); shut = x.shut })
-        (λ z. Some (function (type_of T q) z)) (λ T y. New (function_type q y))
+        (λ z. Some (function (type_of T q) z)) (λ T y. fresh (function_type q y))
         (λ T' u' y w.
         let g = w.grew in
         let th = w.there in
@@ -167,7 +166,7 @@ module _ (m : Meaning) (L : Lawful m) (α : System) (t : ℕ) (T₀ es : List En
         SZ = 1 + ((0 + size_of es f) + 0)
 
         W : Walked
-        W = and_then (walk_of m α t es f (q ∷ Γ) T u) (λ T u y. settled (New (function_type q y)) T u)
+        W = and_then (walk_of m α t es f (q ∷ Γ) T u) (λ T u y. settled (fresh (function_type q y)) T u)
 
         coded : well_coded m CL ≡ true
         coded =
@@ -214,8 +213,8 @@ module _ (m : Meaning) (L : Lawful m) (α : System) (t : ℕ) (T₀ es : List En
     at_guard : (f s c : ℕ) → Placed m.role t k (made 21 f s c) → Node k (made 21 f s c)
     unfolding infer
     at_guard f s c pl Γ T u x =
-        subst (λ (b : Bool). Linked m T u (1 + ((0 + size_of es f) + 0)) (given b (on_some (infer m α (tys T Γ) (term f)) (λ y. Some (guarded c y)))) (and_then (walk_of m α t es f Γ T u) (λ T u y. settled (New (guarded_type c y)) T u))) (sym (pl.code refl))
-        (plain f (pl.low 0 (lit< tt)) Γ T u _ x x.shut (λ y. Some (guarded c y)) (λ T y. New (guarded_type c y))
+        subst (λ (b : Bool). Linked m T u (1 + ((0 + size_of es f) + 0)) (given b (on_some (infer m α (tys T Γ) (term f)) (λ y. Some (guarded c y)))) (and_then (walk_of m α t es f Γ T u) (λ T u y. settled (fresh (guarded_type c y)) T u))) (sym (pl.code refl))
+        (plain f (pl.low 0 (lit< tt)) Γ T u _ x x.shut (λ y. Some (guarded c y)) (λ T y. fresh (guarded_type c y))
         (λ T' u' y w. (low_guarded m.role u' c y w.there (pl.code refl), refl)))
 
     at_check : (f s c : ℕ) → Placed m.role t k (made 22 f s c) → Node k (made 22 f s c)
@@ -228,7 +227,7 @@ module _ (m : Meaning) (L : Lawful m) (α : System) (t : ℕ) (T₀ es : List En
     at_unit : (f s c : ℕ) → Placed m.role t k (made 23 f s c) → Node k (made 23 f s c)
     unfolding infer
     at_unit f s c pl Γ T u x =
-        plain f (pl.low 0 (lit< tt)) Γ T u _ x x.shut (λ y. Some (computation m.bottom y)) (λ T y. New (computation_type m.bottom y))
+        plain f (pl.low 0 (lit< tt)) Γ T u _ x x.shut (λ y. Some (computation m.bottom y)) (λ T y. fresh (computation_type m.bottom y))
         (λ T' u' y w. (low_computation m.role u' m.bottom y w.there (L.bottom_role wk.sound), refl))
 
     at_raise : (f s c : ℕ) → Placed m.role t k (made 25 f s c) → Node k (made 25 f s c)
@@ -333,8 +332,8 @@ module _ (m : Meaning) (L : Lawful m) (α : System) (t : ℕ) (T₀ es : List En
   alike_then (stopped T c) (going T' u' x') a f f' h = absurd a
   alike_then (stopped T c) (stopped T' c') a f f' h = a
 
-  alike_settled : (J J' : Finding) → J' ≡ J → (T T' : List Entry) (u : ℕ) → u < length T → Agree u T T' → Alike (settled J T u) (settled J' T' u)
-  alike_settled J J' e T T' u l a = subst (λ (z : Finding). Alike (settled J T u) (settled z T' u)) (sym e) (go J)
+  alike_settled : (J J' : Judged) → J' ≡ J → (T T' : List Entry) (u : ℕ) → u < length T → Agree u T T' → Alike (settled J T u) (settled J' T' u)
+  alike_settled J J' e T T' u l a = subst (λ (z : Judged). Alike (settled J T u) (settled z T' u)) (sym e) (go J)
     where
       new : (e : Entry) (i : ℕ) → i < u + 1 → at (set T' u e) i ≡ at (set T u e) i
       new e i h = ⊎_elim
@@ -342,12 +341,12 @@ module _ (m : Meaning) (L : Lawful m) (α : System) (t : ℕ) (T₀ es : List En
           (λ z. get_or-set_other T' u i e no_entry z ∙ (a.1 i (omega arith) ∙ sym (get_or-set_other T u i e no_entry z)))
           (cases_eq i u)
 
-      go : (J : Finding) → Alike (settled J T u) (settled J T' u)
-      go (Refused c) = refl
-      go (Known x) = record { used = refl; last = refl; size = a.0; agree = a.1 }
-      go (New e) = record { used = refl; last = refl; size = length-set T' u e ∙ (a.0 ∙ sym (length-set T u e)); agree = new e }
+      go : (J : Judged) → Alike (settled J T u) (settled J T' u)
+      go (Err c) = refl
+      go (Ok (Known x)) = record { used = refl; last = refl; size = a.0; agree = a.1 }
+      go (Ok (New e)) = record { used = refl; last = refl; size = length-set T' u e ∙ (a.0 ∙ sym (length-set T u e)); agree = new e }
 
-  asked_same : (b : Bool) (c : TypingFault) (j j' : Finding) → (b ≡ true → j ≡ j') → asked b c j ≡ asked b c j'
+  asked_same : (b : Bool) (c : TypingFault) (j j' : Judged) → (b ≡ true → j ≡ j') → asked b c j ≡ asked b c j'
   asked_same true c j j' h = h refl
   asked_same false c j j' h = refl
 
@@ -358,19 +357,19 @@ module _ (m : Meaning) (L : Lawful m) (α : System) (t : ℕ) (T₀ es : List En
 
     applied_again : (p f x : ℕ) → f < u → x < u → applied m α p T' f x ≡ applied m α p T f x
     applied_again p f x lf lx =
-        ap (λ (e : Entry). asked (eqb e.tag 2) (NoFunction p) (asked (is_subtype m α (type_of T' x) (type_of T' e.first)) (Argument p) (Known e.second))) (a f lf)
+        ap (λ (e : Entry). asked (eqb e.tag 2) (NoFunction p) (asked (is_subtype m α (type_of T' x) (type_of T' e.first)) (Argument p) (known e.second))) (a f lf)
         ∙ asked_same (eqb (at T f).tag 2) (NoFunction p) _ _
         (λ z.
         let q = eqb-true (at T f).tag 2 z in
-        ap₂ (λ (y r : Ty). asked (is_subtype m α y r) (Argument p) (Known (at T f).second)) (type_again x lx) (type_again (at T f).first (omega (arith, (g f lf).one (omega arith)))))
+        ap₂ (λ (y r : Ty). asked (is_subtype m α y r) (Argument p) (known (at T f).second)) (type_again x lx) (type_again (at T f).first (omega (arith, (g f lf).one (omega arith)))))
 
     fixed_again : (p f : ℕ) → f < u → fixed m α p T' f ≡ fixed m α p T f
     fixed_again p f lf =
-        ap (λ (e : Entry). asked (eqb e.tag 2) (NoFunction p) (asked (is_subtype m α (type_of T' e.second) (type_of T' e.first)) (Result p) (Known e.second))) (a f lf)
+        ap (λ (e : Entry). asked (eqb e.tag 2) (NoFunction p) (asked (is_subtype m α (type_of T' e.second) (type_of T' e.first)) (Result p) (known e.second))) (a f lf)
         ∙ asked_same (eqb (at T f).tag 2) (NoFunction p) _ _
         (λ z.
         let q = eqb-true (at T f).tag 2 z in
-        ap₂ (λ (y r : Ty). asked (is_subtype m α y r) (Result p) (Known (at T f).second)) (type_again (at T f).second (omega (arith, (g f lf).two q))) (type_again (at T f).first (omega (arith, (g f lf).one (omega arith)))))
+        ap₂ (λ (y r : Ty). asked (is_subtype m α y r) (Result p) (known (at T f).second)) (type_again (at T f).second (omega (arith, (g f lf).two q))) (type_again (at T f).first (omega (arith, (g f lf).one (omega arith)))))
 
   abbrev Again : ℕ → Type 0
   Again k = (Γ : List ℕ) (T T' : List Entry) (u : ℕ) → Ctx T u Γ (size_of es k) (term k) → Agree u T T' → Alike (walk_of m α t es k Γ T u) (walk_of m α t es k Γ T' u)
@@ -379,7 +378,7 @@ module _ (m : Meaning) (L : Lawful m) (α : System) (t : ℕ) (T₀ es : List En
   NodeAgain k e = (Γ : List ℕ) (T T' : List Entry) (u : ℕ) → Ctx T u Γ (node_size e) (node e) → Agree u T T' → Alike (walk_by m α (t + k) e (walk_of m α t es) Γ T u) (walk_by m α (t + k) e (walk_of m α t es) Γ T' u)
 
   -- the last operand, and then the term
-  one_again : (f : ℕ) (Γ : List ℕ) (T T' : List Entry) (u b : ℕ) → size_of es f < b → u + b ≤ length T → Goal f → Again f → Ctx T u Γ (size_of es f) (term f) → Agree u T T' → (J : List Entry → ℕ → Finding) → ((T₁ T₁' : List Entry) (u₁ x : ℕ) → Went m T u (size_of es f) (infer m α (tys T Γ) (term f)) T₁ u₁ x → ((i : ℕ) → i < u₁ → at T₁' i ≡ at T₁ i) → J T₁' x ≡ J T₁ x) → Alike (and_then (walk_of m α t es f Γ T u) (λ T u x. settled (J T x) T u)) (and_then (walk_of m α t es f Γ T' u) (λ T u x. settled (J T x) T u))
+  one_again : (f : ℕ) (Γ : List ℕ) (T T' : List Entry) (u b : ℕ) → size_of es f < b → u + b ≤ length T → Goal f → Again f → Ctx T u Γ (size_of es f) (term f) → Agree u T T' → (J : List Entry → ℕ → Judged) → ((T₁ T₁' : List Entry) (u₁ x : ℕ) → Went m T u (size_of es f) (infer m α (tys T Γ) (term f)) T₁ u₁ x → ((i : ℕ) → i < u₁ → at T₁' i ≡ at T₁ i) → J T₁' x ≡ J T₁ x) → Alike (and_then (walk_of m α t es f Γ T u) (λ T u x. settled (J T x) T u)) (and_then (walk_of m α t es f Γ T' u) (λ T u x. settled (J T x) T u))
   one_again f Γ T T' u b s l goal again c a J h =
       alike_then (walk_of m α t es f Γ T u) (walk_of m α t es f Γ T' u) (again Γ T T' u c a) (λ T u x. settled (J T x) T u) (λ T u x. settled (J T x) T u)
       (λ T₁ T₁' u₁ x e g.
@@ -391,10 +390,10 @@ module _ (m : Meaning) (L : Lawful m) (α : System) (t : ℕ) (T₀ es : List En
     abbrev q : ℕ
     q = t + k
 
-    leaf_again : (J : Finding) (T T' : List Entry) (u : ℕ) → u + 1 ≤ length T → Agree u T T' → Alike (settled J T u) (settled J T' u)
+    leaf_again : (J : Judged) (T T' : List Entry) (u : ℕ) → u + 1 ≤ length T → Agree u T T' → Alike (settled J T u) (settled J T' u)
     leaf_again J T T' u l a = alike_settled J J refl T T' u (omega arith) a
 
-    plain_again : (f : ℕ) → f < k → (Γ : List ℕ) (T T' : List Entry) (u : ℕ) (e : Term) → Ctx T u Γ (1 + ((0 + size_of es f) + 0)) e → closed (depth_of Γ) (term f) ≡ true → Agree u T T' → (J : List Entry → ℕ → Finding) → ((T₁ T₁' : List Entry) (u₁ x : ℕ) → Grounded m.role T₁ u₁ → x < u₁ → ((i : ℕ) → i < u₁ → at T₁' i ≡ at T₁ i) → J T₁' x ≡ J T₁ x) → Alike (and_then (walk_of m α t es f Γ T u) (λ T u x. settled (J T x) T u)) (and_then (walk_of m α t es f Γ T' u) (λ T u x. settled (J T x) T u))
+    plain_again : (f : ℕ) → f < k → (Γ : List ℕ) (T T' : List Entry) (u : ℕ) (e : Term) → Ctx T u Γ (1 + ((0 + size_of es f) + 0)) e → closed (depth_of Γ) (term f) ≡ true → Agree u T T' → (J : List Entry → ℕ → Judged) → ((T₁ T₁' : List Entry) (u₁ x : ℕ) → Grounded m.role T₁ u₁ → x < u₁ → ((i : ℕ) → i < u₁ → at T₁' i ≡ at T₁ i) → J T₁' x ≡ J T₁ x) → Alike (and_then (walk_of m α t es f Γ T u) (λ T u x. settled (J T x) T u)) (and_then (walk_of m α t es f Γ T' u) (λ T u x. settled (J T x) T u))
     plain_again f l Γ T T' u e x sh a J h =
         one_again f Γ T T' u (1 + ((0 + size_of es f) + 0)) (omega arith) (omega (arith, x.long)) (ih f l) (ag f l)
         (record { gr = x.gr; since = x.since; low = x.low; front = x.front; long = omega (arith, x.long); shut = sh }) a J
@@ -449,17 +448,17 @@ module _ (m : Meaning) (L : Lawful m) (α : System) (t : ℕ) (T₀ es : List En
     node_again : (e : Entry) → term_tag e.tag ≡ true → Placed m.role t k e → NodeAgain k e
     node_again =
         by_term_tag (λ e. Placed m.role t k e → NodeAgain k e)
-        (λ f s c pl Γ T T' u x a. leaf_again (New (base_type f)) T T' u x.long a)
-        (λ f s c pl Γ T T' u x a. leaf_again (Known (get_or Γ f 0)) T T' u x.long a)
+        (λ f s c pl Γ T T' u x a. leaf_again (fresh (base_type f)) T T' u x.long a)
+        (λ f s c pl Γ T T' u x a. leaf_again (known (get_or Γ f 0)) T T' u x.long a)
         (λ f s c pl Γ T T' u x a.
         let n : ℕ = claim_of α (made 18 f s c) in
         one_again f (n ∷ Γ) T T' u (1 + ((0 + size_of es f) + 0)) (omega arith) (omega (arith, x.long)) (ih f (pl.low 0 (lit< tt))) (ag f (pl.low 0 (lit< tt)))
-        (record { gr = x.gr; since = x.since; low = (omega (arith, x.since, claim_low α t (made 18 f s c) (pl.claim refl)), x.low); front = x.front; long = omega (arith, x.long); shut = x.shut }) a (λ T y. New (function_type n y)) (λ T₁ T₁' u₁ y w g. refl))
+        (record { gr = x.gr; since = x.since; low = (omega (arith, x.since, claim_low α t (made 18 f s c) (pl.claim refl)), x.low); front = x.front; long = omega (arith, x.long); shut = x.shut }) a (λ T y. fresh (function_type n y)) (λ T₁ T₁' u₁ y w g. refl))
         app_again
         (λ f s c pl Γ T T' u x a. plain_again f (pl.low 0 (lit< tt)) Γ T T' u _ x x.shut a (λ T y. fixed m α q T y) (λ T₁ T₁' u₁ y g l e. fixed_again T₁ T₁' u₁ g e q y l))
-        (λ f s c pl Γ T T' u x a. plain_again f (pl.low 0 (lit< tt)) Γ T T' u _ x x.shut a (λ T y. New (guarded_type c y)) (λ T₁ T₁' u₁ y g l e. refl))
+        (λ f s c pl Γ T T' u x a. plain_again f (pl.low 0 (lit< tt)) Γ T T' u _ x x.shut a (λ T y. fresh (guarded_type c y)) (λ T₁ T₁' u₁ y g l e. refl))
         (λ f s c pl Γ T T' u x a. plain_again f (pl.low 0 (lit< tt)) Γ T T' u _ x x.shut a (λ T y. checked q T y) (λ T₁ T₁' u₁ y g l e. ap (checked_as q) (e y l)))
-        (λ f s c pl Γ T T' u x a. plain_again f (pl.low 0 (lit< tt)) Γ T T' u _ x x.shut a (λ T y. New (computation_type m.bottom y)) (λ T₁ T₁' u₁ y g l e. refl))
+        (λ f s c pl Γ T T' u x a. plain_again f (pl.low 0 (lit< tt)) Γ T T' u _ x x.shut a (λ T y. fresh (computation_type m.bottom y)) (λ T₁ T₁' u₁ y g l e. refl))
         let_again
         (λ f s c pl Γ T T' u x a. plain_again f (pl.low 0 (lit< tt)) Γ T T' u _ x x.shut a (λ T y. raised m q T c y) (λ T₁ T₁' u₁ y g l e. ap (raised_as m q c) (e y l)))
         (λ f s c pl Γ T T' u x a. plain_again f (pl.low 0 (lit< tt)) Γ T T' u _ x x.shut a (λ T y. restricted m α q T c y) (λ T₁ T₁' u₁ y g l e. ap (restricted_as m α q c) (e y l)))

@@ -1,5 +1,5 @@
 -- What a walk comes to is what is inferred: the parts.
-use Rattle.std.proofs.Common.{◌≡◌, ℕ, zero, suc, ◌+◌, ◌<◌, ◌≤◌, Bool, true, false, ◌&&◌, eqb, List, [], ◌∷◌, length, get_or, set, is_some, Some, None, Option, sym, refl, ap, ◌∙◌, subst, ap₂, subst₂, arith}
+use Rattle.std.proofs.Common.{◌≡◌, ℕ, zero, suc, ◌+◌, ◌<◌, ◌≤◌, Bool, true, false, ◌&&◌, eqb, List, [], ◌∷◌, length, get_or, set, is_some, Some, None, Option, Ok, Err, sym, refl, ap, ◌∙◌, subst, ap₂, subst₂, arith}
 use mathlib.Core.Bool.{false≢true}
 use Rattle.std.proofs.lemmas.List.{get_or-set_same, get_or-set_other, length-set}
 use Rattle.roles.specs.Meaning.{Meaning, Lawful}
@@ -12,10 +12,9 @@ use Rattle.tables.specs.Entries.{at, no_entry}
 use Rattle.trees.specs.Trees.{kind, type_by, type_of}
 use Rattle.walks.specs.declared.fault.TypingFault.{TypingFault}
 use Rattle.walks.specs.declared.fault.TypingFault.TheVariants.{NoFunction, Argument, Result, NoGuard, NoComputation, Restriction}
-use Rattle.walks.specs.declared.finding.Finding.{Finding}
-use Rattle.walks.specs.declared.finding.Finding.TheVariants.{Refused, Known, New}
+use Rattle.walks.specs.declared.finding.Finding.TheVariants.{Known, New}
 use Rattle.walks.specs.Places.{Low, Grounded}
-use Rattle.walks.specs.Rules.{computation_type, role_of, asked, below, applied, fixed, checked, joined, raised, restricted}
+use Rattle.walks.specs.Rules.{Judged, known, fresh, computation_type, role_of, asked, below, applied, fixed, checked, joined, raised, restricted}
 use Rattle.walks.specs.Walk.{Walked, going, stopped, and_then, settled}
 use Rattle.walks.proofs.Goods.{Good, join_there, remainder_there}
 use Rattle.walks.proofs.TypeTrees.{Four, is1, is2, is3, is4, tag_of, node_1, node_2, node_3, node_4, node_same, tree_is, tree_same, ground_more}
@@ -55,10 +54,10 @@ Linked m T u sz o (going T' u' x) = Went m T u sz o T' u' x
 Linked m T u sz o (stopped T' c) = Halted T u sz o T'
 
 -- what is found of a term is what is inferred
-abbrev pub Judges : List Entry → Option Ty → Finding → Type 0
-Judges T o (Refused c) = o ≡ None
-Judges T o (Known x) = o ≡ Some (type_of T x)
-Judges T o (New e) = o ≡ Some (type_by e (type_of T))
+abbrev pub Judges : List Entry → Option Ty → Judged → Type 0
+Judges T o (Err c) = o ≡ None
+Judges T o (Ok (Known x)) = o ≡ Some (type_of T x)
+Judges T o (Ok (New e)) = o ≡ Some (type_by e (type_of T))
 
 pub same_types : (m : Meaning) (T : List Entry) (u sz : ℕ) (T' : List Entry) (u' : ℕ) → Grew m T u sz T' u' → (i : ℕ) → i < u → type_of T' i ≡ type_of T i
 same_types m T u sz T' u' g i l = tree_same T T' i (λ k h. g.kept k (omega arith))
@@ -86,14 +85,14 @@ tree_fresh role T u e l w g =
     ∙ (ap (λ x. type_by x (type_of (set T u e))) (get_or-set_same T u e no_entry l)
     ∙ node_same role u e (type_of (set T u e)) (type_of T) w (λ i h. tree_kept T u e i h))
 
-pub settled_links : (m : Meaning) (T : List Entry) (u sz : ℕ) (T' : List Entry) (u' : ℕ) → Grew m T u sz T' u' → u + sz < length T → (J : Finding) → Good m.role u' J → (o : Option Ty) → Judges T' o J → (b : ℕ) → sz < b → Linked m T u b o (settled J T' u')
-settled_links m T u sz T' u' g l (Refused c) h o j b s = record { none = j; long = g.long; kept = g.kept; beyond = λ i a. g.beyond i (omega arith) }
-settled_links m T u sz T' u' g l (Known x) h o j b s = record {
+pub settled_links : (m : Meaning) (T : List Entry) (u sz : ℕ) (T' : List Entry) (u' : ℕ) → Grew m T u sz T' u' → u + sz < length T → (J : Judged) → Good m.role u' J → (o : Option Ty) → Judges T' o J → (b : ℕ) → sz < b → Linked m T u b o (settled J T' u')
+settled_links m T u sz T' u' g l (Err c) h o j b s = record { none = j; long = g.long; kept = g.kept; beyond = λ i a. g.beyond i (omega arith) }
+settled_links m T u sz T' u' g l (Ok (Known x)) h o j b s = record {
   grew = record { more = g.more; room = omega (arith, g.room); long = g.long; ground = g.ground; kept = g.kept; beyond = λ i a. g.beyond i (omega arith) };
   there = h;
   type = j;
 }
-settled_links m T u sz T' u' g l (New e) h o j b s =
+settled_links m T u sz T' u' g l (Ok (New e)) h o j b s =
     let lt : u' < length T' = omega (arith, g.room, g.long) in
     record {
       grew = record {
@@ -163,50 +162,50 @@ module _ (m : Meaning) (L : Lawful m) (α : System) (p : ℕ) (T : List Entry) (
       go (is3 h) = put _ 3 (tree_3 x l h) h (p3 h)
       go (is4 h) = put _ 4 (tree_4 x l h) h (p4 h)
 
-  given_judges : (b : Bool) (c : TypingFault) (o : Option Ty) (j : Finding) → Judges T o j → Judges T (given b o) (asked b c j)
+  given_judges : (b : Bool) (c : TypingFault) (o : Option Ty) (j : Judged) → Judges T o j → Judges T (given b o) (asked b c j)
   given_judges true c o j h = h
   given_judges false c o j h = refl
 
-  some_judges : (i : ℕ) (r : Option ℕ) → is_some r ≡ true → Judges T (on_some r (λ c. Some (computation c (type_of T i)))) (New (computation_type (role_of r) i))
+  some_judges : (i : ℕ) (r : Option ℕ) → is_some r ≡ true → Judges T (on_some r (λ c. Some (computation c (type_of T i)))) (fresh (computation_type (role_of r) i))
   some_judges i None h = absurd (false≢true h)
   some_judges i (Some c) h = refl
 
   pub apply_judges : (f x : ℕ) → f < u → Judges T (apply_to m α (type_of T f) (type_of T x)) (applied m α p T f x)
   apply_judges f x l =
-      let rest : Finding = asked (below m α T x (at T f).first) (Argument p) (Known (at T f).second) in
+      let rest : Judged = asked (below m α T x (at T f).first) (Argument p) (known (at T f).second) in
       by_shape (λ y n. Judges T (apply_to m α y (type_of T x)) (asked (eqb n 2) (NoFunction p) rest)) f l refl
-      (given_judges (below m α T x (at T f).first) (Argument p) (Some (type_of T (at T f).second)) (Known (at T f).second) refl)
+      (given_judges (below m α T x (at T f).first) (Argument p) (Some (type_of T (at T f).second)) (known (at T f).second) refl)
       (λ _. refl) (λ _. refl)
 
   pub fix_judges : (f : ℕ) → f < u → Judges T (fix_of m α (type_of T f)) (fixed m α p T f)
   fix_judges f l =
-      let rest : Finding = asked (below m α T (at T f).second (at T f).first) (Result p) (Known (at T f).second) in
+      let rest : Judged = asked (below m α T (at T f).second (at T f).first) (Result p) (known (at T f).second) in
       by_shape (λ y n. Judges T (fix_of m α y) (asked (eqb n 2) (NoFunction p) rest)) f l refl
-      (given_judges (below m α T (at T f).second (at T f).first) (Result p) (Some (type_of T (at T f).second)) (Known (at T f).second) refl)
+      (given_judges (below m α T (at T f).second (at T f).first) (Result p) (Some (type_of T (at T f).second)) (known (at T f).second) refl)
       (λ _. refl) (λ _. refl)
 
   pub check_judges : (x : ℕ) → x < u → Judges T (check_of (type_of T x)) (checked p T x)
   check_judges x l =
-      by_shape (λ y n. Judges T (check_of y) (asked (eqb n 3) (NoGuard p) (New (computation_type (at T x).third (at T x).first)))) x l refl refl (λ _. refl) (λ _. refl)
+      by_shape (λ y n. Judges T (check_of y) (asked (eqb n 3) (NoGuard p) (fresh (computation_type (at T x).third (at T x).first)))) x l refl refl (λ _. refl) (λ _. refl)
 
   pub join_judges : (f x : ℕ) → m.role (at T f).third ≡ true → x < u → Judges T (join_to m (at T f).third (type_of T x)) (joined m p T f x)
   join_judges f x r l =
-      by_shape (λ y n. Judges T (join_to m (at T f).third y) (asked (eqb n 4) (NoComputation p) (New (computation_type (role_of (m.join (at T f).third (at T x).third)) (at T x).first)))) x l refl refl (λ _. refl)
+      by_shape (λ y n. Judges T (join_to m (at T f).third y) (asked (eqb n 4) (NoComputation p) (fresh (computation_type (role_of (m.join (at T f).third (at T x).third)) (at T x).first)))) x l refl refl (λ _. refl)
       (λ q. some_judges (at T x).first (m.join (at T f).third (at T x).third) (join_there m L _ _ r ((g x l).code (omega arith))))
 
   pub raise_judges : (a x : ℕ) → m.role a ≡ true → x < u → Judges T (raise_by m a (type_of T x)) (raised m p T a x)
   raise_judges a x r l =
-      by_shape (λ y n. Judges T (raise_by m a y) (asked (eqb n 4) (NoComputation p) (New (computation_type (role_of (m.remainder (at T x).third a)) (at T x).first)))) x l refl refl (λ _. refl)
+      by_shape (λ y n. Judges T (raise_by m a y) (asked (eqb n 4) (NoComputation p) (fresh (computation_type (role_of (m.remainder (at T x).third a)) (at T x).first)))) x l refl refl (λ _. refl)
       (λ q. some_judges (at T x).first (m.remainder (at T x).third a) (remainder_there m L _ _ ((g x l).code (omega arith)) r))
 
   pub restrict_judges : (a x : ℕ) → m.role a ≡ true → x < u → Judges T (restrict_to m α a (type_of T x)) (restricted m α p T a x)
   restrict_judges a x r l =
-      let rest : Finding = asked (permits m α a (at T x).third) (Restriction p) (New (computation_type (at T x).third (at T x).first)) in
+      let rest : Judged = asked (permits m α a (at T x).third) (Restriction p) (fresh (computation_type (at T x).third (at T x).first)) in
       by_shape (λ y n. Judges T (restrict_to m α a y) (asked (eqb n 4) (NoComputation p) rest)) x l refl refl (λ _. refl)
       (λ q. role_judges (m.role a) r (Some (computation (at T x).third (type_of T (at T x).first))) (permits m α a (at T x).third) rest
-      (given_judges (permits m α a (at T x).third) (Restriction p) (Some (computation (at T x).third (type_of T (at T x).first))) (New (computation_type (at T x).third (at T x).first)) refl))
+      (given_judges (permits m α a (at T x).third) (Restriction p) (Some (computation (at T x).third (type_of T (at T x).first))) (fresh (computation_type (at T x).third (at T x).first)) refl))
     where
-      role_judges : (b : Bool) → b ≡ true → (o : Option Ty) (c : Bool) (J : Finding) → Judges T (given c o) J → Judges T (given (b && c) o) J
+      role_judges : (b : Bool) → b ≡ true → (o : Option Ty) (c : Bool) (J : Judged) → Judges T (given c o) J → Judges T (given (b && c) o) J
       role_judges b e o c J h = rw e h
 
 -- how many binders there are

@@ -3,10 +3,10 @@ use Rattle.std.proofs.Common.{◌≡◌, ℕ, zero, suc, ◌+◌, ◌-◌, ◌*�
 use Rattle.std.proofs.lemmas.List.{take_all}
 use Rattle.std.proofs.lemmas.Bool.{cases_eq, ne_eqb, eq-eqb}
 use Rattle.tables.specs.declared.entry.Entry.{Entry}
-use Rattle.tables.specs.Entries.{at, names}
+use Rattle.tables.specs.Entries.{at, names, operand_of}
 use Rattle.tables.specs.Uses.{hits, uses}
 use Rattle.tables.proofs.Used.{uses-more}
-use Rattle.walks.specs.Places.{operand_of, Rooted}
+use Rattle.walks.specs.Places.{Rooted}
 use Rattle.walks.proofs.Sums.{sum_rest, sum_of, size_of, sum_is}
 
 abbrev sum : (ℕ → ℕ) → ℕ → ℕ

@@ -6,11 +6,11 @@ use Rattle.std.proofs.lemmas.Bool.{and_parts, leb-true, ltb-true, cases_eq, ne_e
 use Rattle.std.proofs.lemmas.Bool.Decides.{nat_tests}
 use Rattle.roles.specs.Meaning.{Meaning}
 use Rattle.tables.specs.declared.entry.Entry.{Entry}
-use Rattle.tables.specs.Entries.{at, no_entry, names, role_tag, type_tag, type_operands, term_tag, term_operands, role_fits}
+use Rattle.tables.specs.Entries.{at, no_entry, names, role_tag, type_tag, type_operands, term_tag, term_operands, role_fits, operand_of}
 use Rattle.tables.specs.Lower.{Lower}
 use Rattle.tables.proofs.Rooting.{operands_lower}
 use Rattle.trees.proofs.ByTag.{by_type_tag}
-use Rattle.walks.specs.Places.{operand_of, Low, Grounded, Placed, Rooted, Walkable}
+use Rattle.walks.specs.Places.{Low, Grounded, Placed, Rooted, Walkable}
 
 -- a type that answered with yes
 pub low_of : (role : ℕ → Bool) (k : ℕ) (e : Entry) → type_tag e.tag ≡ true → type_operands e k ≡ true → role_fits role e ≡ true → Low role k e

@@ -1,10 +1,10 @@
 -- What a walk takes, entry by entry.
 use Rattle.std.proofs.Common.{◌≡◌, ℕ, zero, suc, ◌+◌, ◌-◌, ◌<◌, ◌≤◌, Bool, List, get_or, refl, ap, ◌∙◌, ap₂, arith}
 use Rattle.tables.specs.declared.entry.Entry.{Entry}
-use Rattle.tables.specs.Entries.{at, names}
+use Rattle.tables.specs.Entries.{at, names, operand_of}
 use Rattle.tables.specs.Ladder.{ladder, rung}
 use Rattle.tables.proofs.Ladders.{get_or_ladder}
-use Rattle.walks.specs.Places.{operand_of, Rooted}
+use Rattle.walks.specs.Places.{Rooted}
 
 -- what n operands of e from the s-th on take, if operand j takes p + c j
 abbrev pub sum_rest : ℕ → Entry → (ℕ → ℕ) → ℕ → ℕ → ℕ

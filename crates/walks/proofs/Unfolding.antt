@@ -4,14 +4,14 @@ use Rattle.std.proofs.lemmas.Bool.{and_from, le-leb}
 use Rattle.roles.specs.Meaning.{Meaning}
 use Rattle.calculus.specs.Subtyping.{System}
 use Rattle.tables.specs.declared.entry.Entry.{Entry}
-use Rattle.tables.specs.Entries.{at, names, term_tag}
+use Rattle.tables.specs.Entries.{at, names, term_tag, operand_of}
 use Rattle.tables.specs.Ladder.{ladder}
 use Rattle.tables.proofs.Ladders.{get_or_ladder}
 use Rattle.trees.proofs.ByTag.{by_term_tag}
 use Rattle.walks.specs.declared.fault.TypingFault.TheVariants.{NoComputation}
 use Rattle.walks.specs.Rules.{applied}
 use Rattle.walks.specs.Walk.{Walked, going, stopped, Walker, and_then, settled, let_rest, walk_by, walk_step, walk_of}
-use Rattle.walks.specs.Places.{operand_of, Placed, Rooted}
+use Rattle.walks.specs.Places.{Placed, Rooted}
 
 pub and_then_same : (w : Walked) (f g : List Entry → ℕ → ℕ → Walked) → ((T : List Entry) (u v : ℕ) → f T u v ≡ g T u v) → and_then w f ≡ and_then w g
 and_then_same (going T u v) f g h = h T u v

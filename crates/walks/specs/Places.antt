@@ -1,13 +1,9 @@
 -- Tables in which a walk can go: types that name lower types, and a job in the form of one. Assumes nothing.
-use Rattle.std.specs.Prelude.{◌≡◌, ℕ, ◌+◌, ◌<◌, ◌≤◌, Bool, true, cond, List, length, take, ◌==◌}
+use Rattle.std.specs.Prelude.{◌≡◌, ℕ, ◌+◌, ◌<◌, ◌≤◌, Bool, true, List, length, take}
 use Rattle.roles.specs.Meaning.{Meaning}
 use Rattle.tables.specs.declared.entry.Entry.{Entry}
-use Rattle.tables.specs.Entries.{at, names, role_tag}
+use Rattle.tables.specs.Entries.{at, names, operand_of, role_tag}
 use Rattle.trees.specs.Formed.{Formed}
-
--- The first term that an entry names, or the second.
-abbrev pub operand_of : Entry → ℕ → ℕ
-operand_of e j = cond (j == 0) e.first e.second
 
 -- Type k has one of the four tags, names lower types, and has a role for a role code.
 pub record Low (role : ℕ → Bool) (k : ℕ) (e : Entry) : Type 0 where

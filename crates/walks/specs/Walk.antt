@@ -7,9 +7,8 @@ use Rattle.tables.specs.Entries.{at}
 use Rattle.tables.specs.Ladder.{rung}
 use Rattle.walks.specs.declared.fault.TypingFault.{TypingFault}
 use Rattle.walks.specs.declared.fault.TypingFault.TheVariants.{NoComputation}
-use Rattle.walks.specs.declared.finding.Finding.{Finding}
-use Rattle.walks.specs.declared.finding.Finding.TheVariants.{Refused, Known, New}
-use Rattle.walks.specs.Rules.{base_type, function_type, guarded_type, computation_type, claim_of, applied, fixed, checked, joined, raised, restricted}
+use Rattle.walks.specs.declared.finding.Finding.TheVariants.{Known, New}
+use Rattle.walks.specs.Rules.{Judged, known, fresh, base_type, function_type, guarded_type, computation_type, claim_of, applied, fixed, checked, joined, raised, restricted}
 
 -- Where a walk stands.
 pub data Walked : Type 0 where
@@ -28,10 +27,10 @@ and_then (going T u x) f = f T u x
 and_then (stopped T c) f = stopped T c
 
 -- What is found of a term is its type, and a new type is appended at the first place that is not in use.
-abbrev pub settled : Finding → List Entry → ℕ → Walked
-settled (Refused c) T u = stopped T c
-settled (Known x) T u = going T u x
-settled (New e) T u = going (slice_set T u e) (u + 1) u
+abbrev pub settled : Judged → List Entry → ℕ → Walked
+settled (Err c) T u = stopped T c
+settled (Ok (Known x)) T u = going T u x
+settled (Ok (New e)) T u = going (slice_set T u e) (u + 1) u
 
 -- The rest of a let whose first operand has the type f: that has to be a computation before the second is looked at, which is under its inner type.
 abbrev pub let_rest : Meaning → ℕ → Entry → (ℕ → Walker) → List ℕ → List Entry → ℕ → ℕ → Walked
@@ -43,14 +42,14 @@ let_rest m p e w Γ T u f =
 -- The walk of the term e, which stands at place p, by the walks of the terms that it names; rule by rule, in the order of the tags.
 abbrev pub walk_by : Meaning → System → ℕ → Entry → (ℕ → Walker) → Walker
 walk_by m α p e w Γ T u =
-    cond (e.tag == 16) (settled (New (base_type e.first)) T u)
-    (cond (e.tag == 17) (settled (Known (slice_index Γ e.first)) T u)
-    (cond (e.tag == 18) (and_then (w e.first (claim_of α e ∷ Γ) T u) (λ T u x. settled (New (function_type (claim_of α e) x)) T u))
+    cond (e.tag == 16) (settled (fresh (base_type e.first)) T u)
+    (cond (e.tag == 17) (settled (known (slice_index Γ e.first)) T u)
+    (cond (e.tag == 18) (and_then (w e.first (claim_of α e ∷ Γ) T u) (λ T u x. settled (fresh (function_type (claim_of α e) x)) T u))
     (cond (e.tag == 19) (and_then (w e.first Γ T u) (λ T u f. and_then (w e.second Γ T u) (λ T u x. settled (applied m α p T f x) T u)))
     (cond (e.tag == 20) (and_then (w e.first Γ T u) (λ T u f. settled (fixed m α p T f) T u))
-    (cond (e.tag == 21) (and_then (w e.first Γ T u) (λ T u x. settled (New (guarded_type e.third x)) T u))
+    (cond (e.tag == 21) (and_then (w e.first Γ T u) (λ T u x. settled (fresh (guarded_type e.third x)) T u))
     (cond (e.tag == 22) (and_then (w e.first Γ T u) (λ T u x. settled (checked p T x) T u))
-    (cond (e.tag == 23) (and_then (w e.first Γ T u) (λ T u x. settled (New (computation_type m.bottom x)) T u))
+    (cond (e.tag == 23) (and_then (w e.first Γ T u) (λ T u x. settled (fresh (computation_type m.bottom x)) T u))
     (cond (e.tag == 24) (and_then (w e.first Γ T u) (λ T u f. let_rest m p e w Γ T u f))
     (cond (e.tag == 25) (and_then (w e.first Γ T u) (λ T u x. settled (raised m p T e.third x) T u))
     (and_then (w e.first Γ T u) (λ T u x. settled (restricted m α p T e.third x) T u)))))))))))

@@ -39,12 +39,12 @@ impl Fault for TypingFault {
 
     fn place(&self) -> u32 {
         match *self {
-            TypingFault::NoFunction { place } => place,
-            TypingFault::Argument { place } => place,
-            TypingFault::Result { place } => place,
-            TypingFault::NoGuard { place } => place,
-            TypingFault::NoComputation { place } => place,
-            TypingFault::Restriction { place } => place,
+            TypingFault::NoFunction { place }
+            | TypingFault::Argument { place }
+            | TypingFault::Result { place }
+            | TypingFault::NoGuard { place }
+            | TypingFault::NoComputation { place }
+            | TypingFault::Restriction { place } => place,
         }
     }
 }

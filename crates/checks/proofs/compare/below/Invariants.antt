@@ -1,15 +1,11 @@
-use Rattle.std.proofs.Common.{◌≡◌}
-use Rattle.walks.specs.Rules as rule
 use Rattle.checks.specs.Systems.{meant}
-use Rattle.checks.proofs.Compares.{pend, cost, Fits}
+use Rattle.checks.proofs.Compares.{Leads, cost}
+use Rattle.checks.proofs.Stacks.{stack}
 use Rattle.checks.proofs.compare.below.Given as goal
 
--- the pairs left are in order exactly if the two types are
-abbrev pub invariant-loop-top : goal.invariant-loop-top
-invariant-loop-top g l =
-    Fits l.used l.a l.pairs l.top
-    × (pend (g.S.Scheme.meaning l.scheme) (meant l.system) l.types l.pairs l.top
-    ≡ rule.below (g.S.Scheme.meaning l.scheme) (meant l.system) l.types l.a l.b)
+-- the pairs of the stack are in order exactly if the two types are
+abbrev pub invariant-loop-pair : goal.invariant-loop-pair
+invariant-loop-pair g l = Leads (g.S.Scheme.meaning l.scheme) (meant l.system) l.types l.used l.a l.b (stack l.pairs.items)
 
-abbrev pub decreases-loop-top : goal.decreases-loop-top
-decreases-loop-top g l = cost l.types l.pairs l.top
+abbrev pub decreases-loop-pair : goal.decreases-loop-pair
+decreases-loop-pair g l = cost l.types (stack l.pairs.items)

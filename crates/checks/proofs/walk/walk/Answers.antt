@@ -1,85 +1,52 @@
-use Rattle.std.proofs.Common.{◌≡◌, ℕ, ◌-◌, ◌<◌, ◌≤◌, length, replicate, sym, refl, ap, ◌∙◌, arith}
-use Rattle.walks.specs.declared.finding.Finding.TheVariants.{Refused, Known, New}
+use Rattle.std.proofs.Common.{◌<◌, length, replicate, Ok, sym, refl, ap, ◌∙◌, arith}
+use Rattle.std.proofs.lemmas.Result.{err_from_is_err_and}
+use Rattle.arrayvec.specs.ArrayVec.{array_vec_len}
+use Rattle.tables.proofs.Asked.{asks_yes}
 use Rattle.walks.specs.Walk.{told, table_of}
-use Rattle.walks.proofs.Placing.{ground}
 use Rattle.checks.specs.Systems.{meant}
-use Rattle.checks.proofs.Depths.{root_depth}
-use Rattle.checks.proofs.Walks.{pend_stopped}
-use Rattle.checks.proofs.Stack.{start_fits, start_sum, start_pend, placed, ready, finish_pend, finish_good, pop_same, pop_fresh, pop_sum, stop_pend, v_there, pushed_pend, pushed_sum, pushed_fits, room}
+use Rattle.checks.proofs.Stack.{begins, popped_stands, refused, two_more, entered, entered_less, top_ready, failed, known_stands, fresh_stands}
+use Rattle.checks.proofs.Stacks.{popped, stack_length}
 use Rattle.checks.proofs.walk.walk.Goals as goal
 
-pub loop-top-init : goal.loop-top-init
-loop-top-init g c =
-    let s = start_sum (g.S.Scheme.meaning c.args.scheme.now) (meant c.args.system) c.args.t c.args.types.now c.args.terms.now c.requires (length c.args.terms.now - 1) (omega (arith, c.requires.some)) (replicate 1024 c.open-frames.result) (replicate 1024 0) c.open-frames.ensures in (
-      start_fits (g.S.Scheme.meaning c.args.scheme.now) c.args.t (length c.args.terms.now - 1) c.args.terms.now c.args.types.now (replicate 1024 c.open-frames.result) (replicate 1024 0) refl refl c.open-frames.ensures (ground (g.S.Scheme.meaning c.args.scheme.now) c.args.t c.args.types.now c.args.terms.now c.requires) (root_depth (g.S.Scheme.meaning c.args.scheme.now) c.args.t c.args.types.now c.args.terms.now c.requires),
-      omega arith,
-      start_pend (g.S.Scheme.meaning c.args.scheme.now) (meant c.args.system) c.args.t c.args.types.now c.args.terms.now c.requires (length c.args.terms.now - 1) (omega (arith, c.requires.some)) (replicate 1024 c.open-frames.result) (replicate 1024 0) c.open-frames.ensures,
-    )
+pub loop-frame-init : goal.loop-frame-init
+loop-frame-init g c =
+    begins _ (g.met.S.Scheme.lawful c.args.scheme.now) (meant c.args.system) c.args.t c.args.types.now c.args.terms.now c.requires (replicate 1024 0) refl c.open.result c.open.ensures c.new-frames.result.items c.push.new.self.items c.new-frames.ensures c.push.ensures.items
 
-pub enters-requires : goal.enters-requires
-enters-requires g c a b =
-    let v : c.loop-top.last < c.loop-top.used = v_there (g.S.Scheme.meaning c.args.scheme.now) (g.met.S.Scheme.lawful c.args.scheme.now) (meant c.args.system) c.args.t c.args.types.now c.args.terms.now c.requires (length c.args.terms.now - 1) (omega (arith, c.requires.some)) c.loop-top.types c.loop-top.used c.loop-top.last c.loop-top.frames c.loop-top.binders c.loop-top.top (c.loop-top.top - 1) (omega arith) c.loop-top.invariant.0 (omega arith) in
-    let u = c.loop-top.invariant.1 in
-    let r = c.requires.room in
-    omega arith
+pub returns-in_err-ask-clause-answer : goal.returns-in_err-ask-clause-answer
+returns-in_err-ask-clause-answer g c =
+    let p = err_from_is_err_and c.from_residual.result c.from_residual.ensures.1 in
+    rw (p.1, p.2) (ap told (refused (g.met.S.Scheme.lawful c.args.scheme.now) c.requires c.loop-frame.auto.types (popped_stands _ _ _ _ _ _ _ _ _ c.in-Some.frame c.pop.new.self.items c.loop-frame.frames.items c.in-Some.ensures.items c.loop-frame.invariant) c.enters-walked.result _ (omega (arith, c.if-frame-named_terms.true, c.named_terms.ensures)) c.enters-walked.ensures c.in_err-ask.ensures))
 
-pub returns-then-not-enters : goal.returns-then-not-enters
-returns-then-not-enters g c =
-    let q = sym (stop_pend (g.S.Scheme.meaning c.args.scheme.now) (g.met.S.Scheme.lawful c.args.scheme.now) (meant c.args.system) c.args.t c.args.types.now c.args.terms.now c.requires (length c.args.terms.now - 1) (omega (arith, c.requires.some)) c.loop-top.types c.loop-top.used c.loop-top.last c.loop-top.frames c.loop-top.binders c.loop-top.top (c.loop-top.top - 1) (omega arith) c.loop-top.invariant.0 (omega arith) (sym c.if-not-enters.ensures)) ∙ c.loop-top.invariant.2 in
-    record { answer = ap told q; table = ap table_of q; there = λ x z. let y : ◌≡◌ {A = ℕ} 0 1 = cc in omega arith }
+pub returns-in_err-ask-clause-table : goal.returns-in_err-ask-clause-table
+returns-in_err-ask-clause-table g c = ap table_of (refused (g.met.S.Scheme.lawful c.args.scheme.now) c.requires c.loop-frame.auto.types (popped_stands _ _ _ _ _ _ _ _ _ c.in-Some.frame c.pop.new.self.items c.loop-frame.frames.items c.in-Some.ensures.items c.loop-frame.invariant) c.enters-walked.result _ (omega (arith, c.if-frame-named_terms.true, c.named_terms.ensures)) c.enters-walked.ensures c.in_err-ask.ensures)
 
-pub binder-requires : goal.binder-requires
-binder-requires g c = (
-  (λ a b.
-      let v : c.loop-top.last < c.loop-top.used = v_there (g.S.Scheme.meaning c.args.scheme.now) (g.met.S.Scheme.lawful c.args.scheme.now) (meant c.args.system) c.args.t c.args.types.now c.args.terms.now c.requires (length c.args.terms.now - 1) (omega (arith, c.requires.some)) c.loop-top.types c.loop-top.used c.loop-top.last c.loop-top.frames c.loop-top.binders c.loop-top.top (c.loop-top.top - 1) (omega arith) c.loop-top.invariant.0 (omega arith) in
-      let u = c.loop-top.invariant.1 in
-      let r = c.requires.room in
-      omega arith),
-  (λ z. let p = ((placed (g.S.Scheme.meaning c.args.scheme.now) (g.met.S.Scheme.lawful c.args.scheme.now) (meant c.args.system) c.args.t c.args.types.now c.args.terms.now c.requires (length c.args.terms.now - 1) (omega (arith, c.requires.some)) c.loop-top.types c.loop-top.used c.loop-top.last c.loop-top.frames c.loop-top.binders c.loop-top.top (c.loop-top.top - 1) (omega arith) c.loop-top.invariant.0).claim z).1 in let s = c.requires.small in omega arith),
-)
+pub push-requires-then-frame-named_terms-2 : goal.push-requires-then-frame-named_terms-2
+push-requires-then-frame-named_terms-2 g c =
+    let n = two_more (g.met.S.Scheme.lawful c.args.scheme.now) c.requires c.loop-frame.auto.types (popped_stands _ _ _ _ _ _ _ _ _ c.in-Some.frame c.pop.new.self.items c.loop-frame.frames.items c.in-Some.ensures.items c.loop-frame.invariant) c.binder.result (omega (arith, c.if-frame-named_terms.true, c.named_terms.ensures)) (sym c.enters-walked.ensures ∙ asks_yes _ _ (sym c.in_ok-ask.ensures)) c.binder.ensures c.next.result c.enter.result c.next.ensures c.enter.ensures (length c.pop.new.self.items) (stack_length c.pop.new.self.items) in
+    let l : array_vec_len c.push-then-frame-named_terms.new.self < 1024 = omega (arith, c.push-then-frame-named_terms.ensures.len) in
+    (omega arith, l)
 
-pub loop-top-smaller-then-frame-named_terms : goal.loop-top-smaller-then-frame-named_terms
-loop-top-smaller-then-frame-named_terms g c = let s = pushed_sum (g.S.Scheme.meaning c.args.scheme.now) (g.met.S.Scheme.lawful c.args.scheme.now) (meant c.args.system) c.args.t c.args.types.now c.args.terms.now c.requires (length c.args.terms.now - 1) (omega (arith, c.requires.some)) c.loop-top.types c.loop-top.used c.loop-top.last c.loop-top.frames c.loop-top.binders c.loop-top.top (c.loop-top.top - 1) (omega arith) c.loop-top.invariant.0 _ c.binder.result _ (omega arith) (sym c.if-not-enters.ensures) refl c.binder.ensures refl c.next.result c.enter.result c.next.ensures c.enter.ensures 1 in omega arith
+pub loop-frame-smaller-then-frame-named_terms : goal.loop-frame-smaller-then-frame-named_terms
+loop-frame-smaller-then-frame-named_terms g c =
+    entered_less (g.met.S.Scheme.lawful c.args.scheme.now) c.requires c.loop-frame.auto.types (popped_stands _ _ _ _ _ _ _ _ _ c.in-Some.frame c.pop.new.self.items c.loop-frame.frames.items c.in-Some.ensures.items c.loop-frame.invariant) c.binder.result (omega (arith, c.if-frame-named_terms.true, c.named_terms.ensures)) (sym c.enters-walked.ensures ∙ asks_yes _ _ (sym c.in_ok-ask.ensures)) c.binder.ensures c.next.result c.enter.result c.next.ensures c.enter.ensures c.pop.new.self.items c.push-then-frame-named_terms.new.self.items c.push-then-frame-named_terms-2.new.self.items c.loop-frame.frames.items refl c.push-then-frame-named_terms.ensures.items c.push-then-frame-named_terms-2.ensures.items (popped c.in-Some.frame c.pop.new.self.items c.loop-frame.frames.items c.in-Some.ensures.items)
 
-pub loop-top-preserved-then-frame-named_terms : goal.loop-top-preserved-then-frame-named_terms
-loop-top-preserved-then-frame-named_terms g c =
-    let s = pushed_sum (g.S.Scheme.meaning c.args.scheme.now) (g.met.S.Scheme.lawful c.args.scheme.now) (meant c.args.system) c.args.t c.args.types.now c.args.terms.now c.requires (length c.args.terms.now - 1) (omega (arith, c.requires.some)) c.loop-top.types c.loop-top.used c.loop-top.last c.loop-top.frames c.loop-top.binders c.loop-top.top (c.loop-top.top - 1) (omega arith) c.loop-top.invariant.0 _ c.binder.result _ (omega arith) (sym c.if-not-enters.ensures) refl c.binder.ensures refl c.next.result c.enter.result c.next.ensures c.enter.ensures 0 in
-    let u = c.loop-top.invariant.1 in
-    (pushed_fits (g.S.Scheme.meaning c.args.scheme.now) (g.met.S.Scheme.lawful c.args.scheme.now) (meant c.args.system) c.args.t c.args.types.now c.args.terms.now c.requires (length c.args.terms.now - 1) (omega (arith, c.requires.some)) c.loop-top.types c.loop-top.used c.loop-top.last c.loop-top.frames c.loop-top.binders c.loop-top.top (c.loop-top.top - 1) (omega arith) c.loop-top.invariant.0 _ c.binder.result _ (omega arith) (sym c.if-not-enters.ensures) refl c.binder.ensures refl c.next.result c.enter.result c.next.ensures c.enter.ensures, omega arith, pushed_pend (g.S.Scheme.meaning c.args.scheme.now) (g.met.S.Scheme.lawful c.args.scheme.now) (meant c.args.system) c.args.t c.args.types.now c.args.terms.now c.requires (length c.args.terms.now - 1) (omega (arith, c.requires.some)) c.loop-top.types c.loop-top.used c.loop-top.last c.loop-top.frames c.loop-top.binders c.loop-top.top (c.loop-top.top - 1) (omega arith) c.loop-top.invariant.0 _ c.binder.result _ (omega arith) (sym c.if-not-enters.ensures) refl c.binder.ensures refl c.next.result c.enter.result c.next.ensures c.enter.ensures ∙ c.loop-top.invariant.2)
+pub loop-frame-preserved-then-frame-named_terms : goal.loop-frame-preserved-then-frame-named_terms
+loop-frame-preserved-then-frame-named_terms g c =
+    entered (g.met.S.Scheme.lawful c.args.scheme.now) c.requires c.loop-frame.auto.types (popped_stands _ _ _ _ _ _ _ _ _ c.in-Some.frame c.pop.new.self.items c.loop-frame.frames.items c.in-Some.ensures.items c.loop-frame.invariant) c.binder.result (omega (arith, c.if-frame-named_terms.true, c.named_terms.ensures)) (sym c.enters-walked.ensures ∙ asks_yes _ _ (sym c.in_ok-ask.ensures)) c.binder.ensures c.next.result c.enter.result c.next.ensures c.enter.ensures c.pop.new.self.items c.push-then-frame-named_terms.new.self.items c.push-then-frame-named_terms-2.new.self.items refl c.push-then-frame-named_terms.ensures.items c.push-then-frame-named_terms-2.ensures.items
 
 pub judge-requires : goal.judge-requires
-judge-requires g c =
-    let u = c.loop-top.invariant.1 in
-    let r = c.requires.room in
-    let k : c.loop-top.used ≤ length c.loop-top.types = omega arith in
-    let s = c.requires.small in
-    let n = c.requires.few in
-    ready (g.S.Scheme.meaning c.args.scheme.now) (g.met.S.Scheme.lawful c.args.scheme.now) (meant c.args.system) c.args.t c.args.types.now c.args.terms.now c.requires (length c.args.terms.now - 1) (omega (arith, c.requires.some)) c.loop-top.types c.loop-top.used c.loop-top.last c.loop-top.frames c.loop-top.binders c.loop-top.top (c.loop-top.top - 1) (omega arith) c.loop-top.invariant.0 (omega arith) k (omega arith)
+judge-requires g c = top_ready (g.met.S.Scheme.lawful c.args.scheme.now) c.requires c.loop-frame.auto.types (popped_stands _ _ _ _ _ _ _ _ _ c.in-Some.frame c.pop.new.self.items c.loop-frame.frames.items c.in-Some.ensures.items c.loop-frame.invariant) (omega (arith, c.if-frame-named_terms.false, c.named_terms.ensures))
 
-pub returns-in-Refused : goal.returns-in-Refused
-returns-in-Refused g c =
-    let q = sym (pend_stopped (g.S.Scheme.meaning c.args.scheme.now) (meant c.args.system) c.args.t c.args.terms.now c.loop-top.frames c.loop-top.binders (c.loop-top.top - 1) _ _) ∙ (finish_pend (g.S.Scheme.meaning c.args.scheme.now) (g.met.S.Scheme.lawful c.args.scheme.now) (meant c.args.system) c.args.t c.args.types.now c.args.terms.now c.requires (length c.args.terms.now - 1) (omega (arith, c.requires.some)) c.loop-top.types c.loop-top.used c.loop-top.last c.loop-top.frames c.loop-top.binders c.loop-top.top (c.loop-top.top - 1) (omega arith) c.loop-top.invariant.0 c.lookup-bound.result (Refused c.in-Refused.fault) c.lookup-bound.ensures c.in-Refused.ensures (omega arith) ∙ c.loop-top.invariant.2) in
-    record { answer = ap told q; table = ap table_of q; there = λ x z. let y : ◌≡◌ {A = ℕ} 0 1 = cc in omega arith }
+pub returns-in_err-found-clause-answer : goal.returns-in_err-found-clause-answer
+returns-in_err-found-clause-answer g c =
+    let p = err_from_is_err_and c.from_residual-in_err-found.result c.from_residual-in_err-found.ensures.1 in
+    rw (p.1, p.2) (ap told (failed (g.met.S.Scheme.lawful c.args.scheme.now) c.requires c.loop-frame.auto.types (popped_stands _ _ _ _ _ _ _ _ _ c.in-Some.frame c.pop.new.self.items c.loop-frame.frames.items c.in-Some.ensures.items c.loop-frame.invariant) c.lookup-bound.result c.judge.result c.lookup-bound.ensures c.judge.ensures (omega (arith, c.if-frame-named_terms.false, c.named_terms.ensures)) _ c.in_err-found.was))
 
-pub loop-top-preserved-in-Known : goal.loop-top-preserved-in-Known
-loop-top-preserved-in-Known g c =
-    let s = pop_sum (g.S.Scheme.meaning c.args.scheme.now) (g.met.S.Scheme.lawful c.args.scheme.now) (meant c.args.system) c.args.t c.args.types.now c.args.terms.now c.requires (length c.args.terms.now - 1) (omega (arith, c.requires.some)) c.loop-top.types c.loop-top.used c.loop-top.last c.loop-top.frames c.loop-top.binders c.loop-top.top (c.loop-top.top - 1) (omega arith) c.loop-top.invariant.0 0 in
-    let u = c.loop-top.invariant.1 in
-    let r = c.requires.room in
-    let sm = c.requires.small in
-    let n = c.requires.few in
-    let k : c.loop-top.used ≤ length c.loop-top.types = omega arith in
-    (pop_same (g.S.Scheme.meaning c.args.scheme.now) (g.met.S.Scheme.lawful c.args.scheme.now) (meant c.args.system) c.args.t c.args.types.now c.args.terms.now c.requires (length c.args.terms.now - 1) (omega (arith, c.requires.some)) c.loop-top.types c.loop-top.used c.loop-top.last c.loop-top.frames c.loop-top.binders c.loop-top.top (c.loop-top.top - 1) (omega arith) c.loop-top.invariant.0 c.in-Known.ty (finish_good (g.S.Scheme.meaning c.args.scheme.now) (g.met.S.Scheme.lawful c.args.scheme.now) (meant c.args.system) c.args.t c.args.types.now c.args.terms.now c.requires (length c.args.terms.now - 1) (omega (arith, c.requires.some)) c.loop-top.types c.loop-top.used c.loop-top.last c.loop-top.frames c.loop-top.binders c.loop-top.top (c.loop-top.top - 1) (omega arith) c.loop-top.invariant.0 c.lookup-bound.result (Known c.in-Known.ty) c.lookup-bound.ensures c.in-Known.ensures (omega arith) k (omega arith)), omega arith, finish_pend (g.S.Scheme.meaning c.args.scheme.now) (g.met.S.Scheme.lawful c.args.scheme.now) (meant c.args.system) c.args.t c.args.types.now c.args.terms.now c.requires (length c.args.terms.now - 1) (omega (arith, c.requires.some)) c.loop-top.types c.loop-top.used c.loop-top.last c.loop-top.frames c.loop-top.binders c.loop-top.top (c.loop-top.top - 1) (omega arith) c.loop-top.invariant.0 c.lookup-bound.result (Known c.in-Known.ty) c.lookup-bound.ensures c.in-Known.ensures (omega arith) ∙ c.loop-top.invariant.2)
+pub returns-in_err-found-clause-table : goal.returns-in_err-found-clause-table
+returns-in_err-found-clause-table g c = ap table_of (failed (g.met.S.Scheme.lawful c.args.scheme.now) c.requires c.loop-frame.auto.types (popped_stands _ _ _ _ _ _ _ _ _ c.in-Some.frame c.pop.new.self.items c.loop-frame.frames.items c.in-Some.ensures.items c.loop-frame.invariant) c.lookup-bound.result c.judge.result c.lookup-bound.ensures c.judge.ensures (omega (arith, c.if-frame-named_terms.false, c.named_terms.ensures)) _ c.in_err-found.was)
 
-pub loop-top-preserved : goal.loop-top-preserved
-loop-top-preserved g c =
-    let s = pop_sum (g.S.Scheme.meaning c.args.scheme.now) (g.met.S.Scheme.lawful c.args.scheme.now) (meant c.args.system) c.args.t c.args.types.now c.args.terms.now c.requires (length c.args.terms.now - 1) (omega (arith, c.requires.some)) c.loop-top.types c.loop-top.used c.loop-top.last c.loop-top.frames c.loop-top.binders c.loop-top.top (c.loop-top.top - 1) (omega arith) c.loop-top.invariant.0 0 in
-    let u = c.loop-top.invariant.1 in
-    let r = c.requires.room in
-    let sm = c.requires.small in
-    let n = c.requires.few in
-    let k : c.loop-top.used < length c.loop-top.types = omega arith in
-    (pop_fresh (g.S.Scheme.meaning c.args.scheme.now) (g.met.S.Scheme.lawful c.args.scheme.now) (meant c.args.system) c.args.t c.args.types.now c.args.terms.now c.requires (length c.args.terms.now - 1) (omega (arith, c.requires.some)) c.loop-top.types c.loop-top.used c.loop-top.last c.loop-top.frames c.loop-top.binders c.loop-top.top (c.loop-top.top - 1) (omega arith) c.loop-top.invariant.0 c.in-New.entry (finish_good (g.S.Scheme.meaning c.args.scheme.now) (g.met.S.Scheme.lawful c.args.scheme.now) (meant c.args.system) c.args.t c.args.types.now c.args.terms.now c.requires (length c.args.terms.now - 1) (omega (arith, c.requires.some)) c.loop-top.types c.loop-top.used c.loop-top.last c.loop-top.frames c.loop-top.binders c.loop-top.top (c.loop-top.top - 1) (omega arith) c.loop-top.invariant.0 c.lookup-bound.result (New c.in-New.entry) c.lookup-bound.ensures c.in-New.ensures (omega arith) (omega arith) (omega arith)) k, omega arith, finish_pend (g.S.Scheme.meaning c.args.scheme.now) (g.met.S.Scheme.lawful c.args.scheme.now) (meant c.args.system) c.args.t c.args.types.now c.args.terms.now c.requires (length c.args.terms.now - 1) (omega (arith, c.requires.some)) c.loop-top.types c.loop-top.used c.loop-top.last c.loop-top.frames c.loop-top.binders c.loop-top.top (c.loop-top.top - 1) (omega arith) c.loop-top.invariant.0 c.lookup-bound.result (New c.in-New.entry) c.lookup-bound.ensures c.in-New.ensures (omega arith) ∙ c.loop-top.invariant.2)
+pub loop-frame-preserved-in-Known : goal.loop-frame-preserved-in-Known
+loop-frame-preserved-in-Known g c = known_stands (g.met.S.Scheme.lawful c.args.scheme.now) c.requires c.loop-frame.auto.types (popped_stands _ _ _ _ _ _ _ _ _ c.in-Some.frame c.pop.new.self.items c.loop-frame.frames.items c.in-Some.ensures.items c.loop-frame.invariant) c.lookup-bound.result c.judge.result c.lookup-bound.ensures c.judge.ensures (omega (arith, c.if-frame-named_terms.false, c.named_terms.ensures)) c.in-Known.ty (c.in_ok-found.was ∙ ap Ok c.in-Known.is)
 
-pub bounds-frames-top : goal.bounds-frames-top
-bounds-frames-top g c = let r = room (g.S.Scheme.meaning c.args.scheme.now) (g.met.S.Scheme.lawful c.args.scheme.now) (meant c.args.system) c.args.t c.args.types.now c.args.terms.now c.requires (length c.args.terms.now - 1) (omega (arith, c.requires.some)) c.loop-top.types c.loop-top.used c.loop-top.last c.loop-top.frames c.loop-top.binders c.loop-top.top (c.loop-top.top - 1) (omega arith) c.loop-top.invariant.0 _ c.binder.result _ (omega arith) (sym c.if-not-enters.ensures) refl c.binder.ensures refl in let l = c.loop-top.invariant.0.frames in omega arith
+pub loop-frame-preserved : goal.loop-frame-preserved
+loop-frame-preserved g c = fresh_stands (g.met.S.Scheme.lawful c.args.scheme.now) c.requires c.loop-frame.auto.types (popped_stands _ _ _ _ _ _ _ _ _ c.in-Some.frame c.pop.new.self.items c.loop-frame.frames.items c.in-Some.ensures.items c.loop-frame.invariant) c.lookup-bound.result c.judge.result c.lookup-bound.ensures c.judge.ensures (omega (arith, c.if-frame-named_terms.false, c.named_terms.ensures)) c.in-New.entry (c.in_ok-found.was ∙ ap Ok c.in-New.is)

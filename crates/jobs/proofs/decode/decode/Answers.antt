@@ -1,16 +1,24 @@
-use Rattle.std.proofs.Common.{◌≡◌, ℕ, ◌+◌, ◌-◌, ◌*◌, List, ◌++◌, length, take, drop, ap, ◌∙◌, ap₂}
-use Rattle.std.proofs.lemmas.List.{take_rest}
+use Rattle.std.proofs.Common.{◌≡◌, ℕ, ◌+◌, ◌-◌, ◌*◌, ◌≤◌, List, ◌++◌, length, take, drop, ap, ◌∙◌}
+use Rattle.std.proofs.lemmas.List.{take_rest, length-take-le}
+use Rattle.tables.specs.declared.entry.Entry.{Entry}
 use Rattle.jobs.specs.Image.{entries}
 use Rattle.jobs.proofs.decode.decode.Goals as goal
 
-pub returns : goal.returns
-returns c =
+-- the entries by tags and operands, where the front of a table is filled
+filled_front : (table new : List Entry) (a b tags operands : List ℕ) (n : ℕ) → n ≤ length table → new ≡ entries a b (length (take n table)) → a ≡ tags → b ≡ operands → new ++ drop n table ≡ entries tags operands n ++ drop n table
+filled_front table new a b tags operands n h e p q =
+    ap (λ x. x ++ drop n table) (e ∙ (λ i. entries (p i) (q i) (length-take-le n table h i)))
+
+pub returns-clause-types : goal.returns-clause-types
+returns-clause-types c =
+    let bs : List ℕ = c.args.image.now in
+    let t : ℕ = c.args.counts.types in
+    filled_front c.args.types.now _ _ _ _ _ t c.requires.1.0 c.fill.ensures (take_rest bs 4) (take_rest bs (4 + t + c.args.counts.terms))
+
+pub returns-clause-terms : goal.returns-clause-terms
+returns-clause-terms c =
     let bs : List ℕ = c.args.image.now in
     let t : ℕ = c.args.counts.types in
     let n : ℕ = c.args.counts.terms in
     let ops : take (length bs - (4 + t + n)) (drop (4 + t + n) bs) ≡ drop (4 + t + n) bs = take_rest bs (4 + t + n) in
-    let past : (xs : List ℕ) → take (length xs - 16 * t) (drop (16 * t) xs) ≡ drop (16 * t) xs = λ xs. take_rest xs (16 * t) in
-    record {
-      types = c.fill.ensures ∙ ap₂ (λ (a b : List ℕ). entries a b t ++ drop t c.args.types.now) (take_rest bs 4) ops;
-      terms = c.fill-2.ensures ∙ ap₂ (λ (a b : List ℕ). entries a b n ++ drop n c.args.terms.now) (take_rest bs (4 + t)) (past _ ∙ ap (drop (16 * t)) ops);
-    }
+    filled_front c.args.terms.now _ _ _ _ _ n c.requires.1.1 c.fill-2.ensures (take_rest bs (4 + t)) (take_rest _ (16 * t) ∙ ap (drop (16 * t)) ops)

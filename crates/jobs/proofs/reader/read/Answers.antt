@@ -1,4 +1,4 @@
-use Rattle.std.proofs.Common.{ℕ, List, length, Ok, Err, sym, ap, ◌∙◌, arith}
+use Rattle.std.proofs.Common.{ℕ, List, length, Ok, sym, ap, ◌∙◌, arith}
 use Rattle.roles.specs.Meaning.{Meaning}
 use Rattle.std.proofs.lemmas.Result.{err_from_is_err_and}
 use Rattle.tables.specs.declared.entry.Entry.{Entry}
@@ -7,7 +7,7 @@ use Rattle.jobs.specs.Asking.{left}
 use Rattle.jobs.specs.Image.{types_told, terms_told, types_in, terms_in}
 use Rattle.jobs.specs.Reading.{counts_told, filled}
 use Rattle.jobs.proofs.Asked.{told_value}
-use Rattle.jobs.proofs.ReadSteps.{no_outline, shape, space, no_entries, accepted, types_filled, terms_filled}
+use Rattle.jobs.proofs.ReadSteps.{no_outline, shape, space, no_entries, accepted, types_filled, terms_filled, refused}
 use Rattle.jobs.proofs.reader.read.Goals as goal
 
 pub examine-requires : goal.examine-requires
@@ -27,12 +27,8 @@ returns-in_err-counts g c =
     let T : List Entry = c.args.types.now in
     let M : List Entry = c.args.terms.now in
     let p = err_from_is_err_and c.from_residual.result c.from_residual.ensures.1 in
-    let no = no_outline m bs (length T) (length M) _ c.in_err-counts.ensures in
-    record {
-      answer = p.1 ∙ (ap Err p.2 ∙ sym (ap (λ z. told z (counts_told bs)) no));
-      types = sym (ap (λ z. left z (filled (types_in bs (types_told bs) (terms_told bs)) T) T) no);
-      terms = sym (ap (λ z. left z (filled (terms_in bs (types_told bs) (terms_told bs)) M) M) no);
-    }
+    let r = refused m bs T M _ _ _ p.1 p.2 (no_outline m bs (length T) (length M) _ c.in_err-counts.ensures) in
+    record { answer = r.answer; types = r.types; terms = r.terms }
 
 pub returns-in_err-examine : goal.returns-in_err-examine
 returns-in_err-examine g c =
@@ -41,12 +37,8 @@ returns-in_err-examine g c =
     let T : List Entry = c.args.types.now in
     let M : List Entry = c.args.terms.now in
     let p = err_from_is_err_and c.from_residual-in_err-examine.result c.from_residual-in_err-examine.ensures.1 in
-    let no = no_entries m bs (length T) (length M) c.in_ok-counts.counts c.in_ok-counts.ensures _ c.in_err-examine.ensures in
-    record {
-      answer = p.1 ∙ (ap Err p.2 ∙ sym (ap (λ z. told z (counts_told bs)) no));
-      types = sym (ap (λ z. left z (filled (types_in bs (types_told bs) (terms_told bs)) T) T) no);
-      terms = sym (ap (λ z. left z (filled (terms_in bs (types_told bs) (terms_told bs)) M) M) no);
-    }
+    let r = refused m bs T M _ _ _ p.1 p.2 (no_entries m bs (length T) (length M) c.in_ok-counts.counts c.in_ok-counts.ensures _ c.in_err-examine.ensures) in
+    record { answer = r.answer; types = r.types; terms = r.terms }
 
 pub returns : goal.returns
 returns g c =

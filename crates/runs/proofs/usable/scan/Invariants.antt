@@ -1,4 +1,4 @@
-use Rattle.std.proofs.Common.{◌≡◌, ℕ, ◌-◌, ◌<◌, get_or, take}
+use Rattle.std.proofs.Common.{◌≡◌, ℕ, ◌-◌, ◌<◌, length, get_or}
 use Rattle.machine.specs.Labelled.{tree}
 use Rattle.runs.specs.Reach.{reach_of}
 use Rattle.runs.specs.Usable.{all_pass}
@@ -7,6 +7,6 @@ use Rattle.runs.proofs.usable.scan.Given as goal
 
 abbrev pub invariant-loop-i : goal.invariant-loop-i
 invariant-loop-i g l =
-    (all_pass (g.S.Scheme.meaning l.scheme).role l.terms (l.used - l.i) l.i ≡ all_pass (g.S.Scheme.meaning l.scheme).role l.terms l.used 0)
-    × Passed (g.S.Scheme.meaning l.scheme).role l.terms l.i
-    × ((k : ℕ) → k < l.i → get_or l.reach k 0 ≡ reach_of (tree (take l.used l.terms) k))
+    (all_pass (g.S.Scheme.meaning l.scheme).role l.used (length l.used - l.i) l.i ≡ all_pass (g.S.Scheme.meaning l.scheme).role l.used (length l.used) 0)
+    × Passed (g.S.Scheme.meaning l.scheme).role l.used l.i
+    × ((k : ℕ) → k < l.i → get_or l.reach k 0 ≡ reach_of (tree l.used k))
