@@ -7,13 +7,6 @@ use roles::fault::Fault;
 use std::alloc::{AllocError, Global};
 use tables::entry::{Counts, Entry};
 
-pub(crate) const NO_ENTRY: Entry = Entry {
-    tag: 0,
-    first: 0,
-    second: 0,
-    third: 0,
-};
-
 /// The scheme of the cases: roles are the codes below 256.
 pub(crate) const MASK: Mask = Mask { width: 8 };
 
@@ -69,14 +62,34 @@ pub(crate) fn lay(heap: Global, types: &[Entry], terms: &[Entry]) -> Result<Vec<
     Ok(image)
 }
 
-/// Number and place of what an image is refused with; 0 and 0 if it is accepted.
-pub(crate) fn told(image: &[u8]) -> (u8, u32) {
-    let mut types = [NO_ENTRY; 1536];
-    let mut terms = [NO_ENTRY; 1024];
-    match read(&MASK, image, &mut types, &mut terms) {
+// Number and place of a refusal; 0 and 0 if there is none.
+fn told_by<T: Drop>(answer: Result<T, ImageFault>) -> (u8, u32) {
+    match answer {
         Ok(_) => (0, 0),
         Err(fault) => (fault.number(), fault.place()),
     }
+}
+
+/// What a reading into lent tables of so many places is refused with.
+pub(crate) fn told_with(image: &[u8], types: &mut [Entry], terms: &mut [Entry]) -> (u8, u32) {
+    told_by(read(&MASK, image, types, terms))
+}
+
+// What a reading under the mask of a width is refused with.
+fn told_under(width: u32, image: &[u8]) -> (u8, u32) {
+    let mut types = [Entry::default(); 1536];
+    let mut terms = [Entry::default(); 1024];
+    told_by(read(&Mask { width }, image, &mut types, &mut terms))
+}
+
+/// What an image is refused with.
+pub(crate) fn told(image: &[u8]) -> (u8, u32) {
+    told_under(MASK.width, image)
+}
+
+/// The number of a fault of reading under another scheme.
+pub(crate) fn number_under(width: u32, image: &[u8]) -> u8 {
+    told_under(width, image).0
 }
 
 /// What the image of two tables is refused with.
@@ -99,14 +112,6 @@ pub(crate) fn term_refused(heap: Global, terms: &[Entry]) -> Result<(u8, u32), A
     refused(heap, &[base(), base()], terms)
 }
 
-/// What a reading into lent tables of so many places is refused with.
-pub(crate) fn told_with(image: &[u8], types: &mut [Entry], terms: &mut [Entry]) -> (u8, u32) {
-    match read(&MASK, image, types, terms) {
-        Ok(_) => (0, 0),
-        Err(fault) => (fault.number(), fault.place()),
-    }
-}
-
 /// What a writing is refused with.
 pub(crate) fn write_told(
     counts: Counts,
@@ -114,19 +119,5 @@ pub(crate) fn write_told(
     terms: &[Entry],
     out: &mut [u8],
 ) -> (u8, u32) {
-    match write(&MASK, counts, types, terms, out) {
-        Ok(()) => (0, 0),
-        Err(fault) => (fault.number(), fault.place()),
-    }
-}
-
-/// The number of a fault of reading under another scheme.
-pub(crate) fn number_under(width: u32, image: &[u8]) -> u8 {
-    let mut types = [NO_ENTRY; 1536];
-    let mut terms = [NO_ENTRY; 1024];
-    match read(&Mask { width }, image, &mut types, &mut terms) {
-        Ok(_) => 0,
-        Err(ImageFault::Form(fault)) => fault.number(),
-        Err(fault) => fault.number(),
-    }
+    told_by(write(&MASK, counts, types, terms, out))
 }

@@ -1,7 +1,7 @@
 //! Images that are refused before an entry is looked at.
 use crate::bench::*;
 use std::test::Fail;
-use tables::entry::Counts;
+use tables::entry::{Counts, Entry};
 
 #[test]
 fn fewer_than_four_bytes(rt: HostRuntime) {
@@ -44,15 +44,15 @@ fn unsound_schemes(rt: HostRuntime) {
 #[test]
 fn tables_without_room(rt: HostRuntime) -> Result<(), Fail> {
     let image = lay(rt.alloc(), &[base(), base()], &[unit(), e(23, 0, 0, 0)])?;
-    let mut four = [NO_ENTRY; 4];
-    let mut three = [NO_ENTRY; 3];
-    let mut two = [NO_ENTRY; 2];
-    let mut one = [NO_ENTRY; 1];
+    let mut four = [Entry::default(); 4];
+    let mut three = [Entry::default(); 3];
+    let mut two = [Entry::default(); 2];
+    let mut one = [Entry::default(); 1];
     assert_eq!(rt; told_with(image.as_slice(), &mut three, &mut two), (6, 0));
     assert_eq!(rt; told_with(image.as_slice(), &mut four, &mut one), (6, 0));
     assert_eq!(rt; told_with(image.as_slice(), &mut four, &mut two), (0, 0));
-    let mut most = vec![in rt.alloc(); NO_ENTRY; 16384]?;
-    let mut above = vec![in rt.alloc(); NO_ENTRY; 16385]?;
+    let mut most = vec![in rt.alloc(); Entry::default(); 16384]?;
+    let mut above = vec![in rt.alloc(); Entry::default(); 16385]?;
     assert_eq!(rt;
         told_with(image.as_slice(), most.as_mut_slice(), &mut two),
         (0, 0)
@@ -74,7 +74,7 @@ fn tables_without_room(rt: HostRuntime) -> Result<(), Fail> {
 
 #[test]
 fn outputs_of_another_length(rt: HostRuntime) {
-    let types = [base(), NO_ENTRY];
+    let types = [base(), Entry::default()];
     let terms = [unit()];
     let counts = Counts { types: 1, terms: 1 };
     let mut long = [9u8; 39];

@@ -7,13 +7,6 @@ use std::alloc::{AllocError, Global};
 use std::test::Fail;
 use tables::entry::{Counts, Entry};
 
-const NO_ENTRY: Entry = Entry {
-    tag: 0,
-    first: 0,
-    second: 0,
-    third: 0,
-};
-
 // One entry.
 fn e(tag: u8, first: u32, second: u32, third: u64) -> Entry {
     Entry {
@@ -52,7 +45,7 @@ fn listed(
 
 #[test]
 fn a_let_of_two_checks(rt: HostRuntime) -> Result<(), Fail> {
-    let types = [NO_ENTRY; 7];
+    let types = [Entry::default(); 7];
     let unit = e(16, 0, 0, 0);
     let terms = [
         unit,
@@ -75,10 +68,10 @@ fn an_abstraction_applied(rt: HostRuntime) -> Result<(), Fail> {
     let types = [
         e(1, 0, 0, 0),
         e(4, 0, 0, 3),
-        NO_ENTRY,
-        NO_ENTRY,
-        NO_ENTRY,
-        NO_ENTRY,
+        Entry::default(),
+        Entry::default(),
+        Entry::default(),
+        Entry::default(),
     ];
     let terms = [
         e(17, 0, 0, 0),
