@@ -1,14 +1,14 @@
 -- Depths handed down by one term more, and how large they are at most.
-use Rattle.std.proofs.Common.{◌≡◌, ℕ, zero, suc, ◌+◌, ◌<◌, ◌≤◌, ltb, ◌⊎◌, List, [], ◌∷◌, ◌++◌, length, get_or, drop, set, replicate, sym, refl, ap, ◌∙◌, subst, inl, inr, append_assoc, arith, length-append}
+use Rattle.std.proofs.Common.{◌≡◌, ℕ, ◌+◌, ◌<◌, ◌≤◌, ltb, ◌⊎◌, List, [], ◌∷◌, ◌++◌, length, get_or, drop, set, replicate, sym, refl, ap, ◌∙◌, subst, inl, inr, append_assoc, arith, length-append}
 use Rattle.std.proofs.Math.Seq.{get_or-append_seam}
 use Rattle.std.specs.List.{push}
 use Rattle.std.proofs.lemmas.List.{drop_more, get_or-set_same, get_or-set_other, length-set, set_past, length_push, nil_from_length, append-nil}
 use Rattle.std.proofs.lemmas.Bool.{cases_eq, cases_lt, cond_both}
-use Rattle.std.proofs.lemmas.Bool.Decides.{nat_tests}
 use Rattle.tables.specs.declared.entry.Entry.{Entry}
-use Rattle.tables.specs.Entries.{at, no_entry, names}
-use Rattle.tables.specs.Depths.{binds_first, binds_second, hand_first, hand_second, hand, depths_from, depths}
+use Rattle.tables.specs.Entries.{at, no_entry, names, operand_of, binds}
+use Rattle.tables.specs.Depths.{binders, hand_down, hand, depths_from, depths}
 use Rattle.tables.specs.Lower.{Lower, Rooted}
+use Rattle.tables.proofs.Used.{uses-none}
 
 -- a value put into a list is read there, or what stood there before
 set_most : (xs : List ℕ) (i j v b : ℕ) → get_or xs j 0 ≤ b → v ≤ b → get_or (set xs i v) j 0 ≤ b
@@ -19,53 +19,35 @@ set_most xs i j v b h l = go (cases_eq j i) (cases_lt i (length xs))
     go (inl e) (inr p) = rw (set_past xs i v p) h
     go (inr ne) s = rw (get_or-set_other xs i j v 0 ne) h
 
-one_most : (k : ℕ) → binds_first k ≤ 1
-one_most k = grind (arith, nat_tests)
+binders_most : (k i : ℕ) → binders k i ≤ 1
+binders_most k i = cond_both (binds k i) 1 0 (λ x. x ≤ 1) (λ _. omega arith) (λ _. omega arith)
 
-one_most₂ : (k : ℕ) → binds_second k ≤ 1
-one_most₂ k = grind (arith, nat_tests)
-
-first_most : (e : Entry) (d j b : ℕ) (ds : List ℕ) → get_or ds j 0 ≤ b → d + 1 ≤ b → get_or (hand_first e d ds) j 0 ≤ b
-first_most e d j b ds h l =
-    cond_both (ltb 0 (names e.tag)) (set ds e.first (d + binds_first e.tag)) ds (λ x. get_or x j 0 ≤ b)
-    (λ _. set_most ds e.first j (d + binds_first e.tag) b h (omega (arith, one_most e.tag))) (λ _. h)
-
-second_most : (e : Entry) (d j b : ℕ) (ds : List ℕ) → get_or ds j 0 ≤ b → d + 1 ≤ b → get_or (hand_second e d ds) j 0 ≤ b
-second_most e d j b ds h l =
-    cond_both (ltb 1 (names e.tag)) (set ds e.second (d + binds_second e.tag)) ds (λ x. get_or x j 0 ≤ b)
-    (λ _. set_most ds e.second j (d + binds_second e.tag) b h (omega (arith, one_most₂ e.tag))) (λ _. h)
-
-zeros_most : (n j : ℕ) → get_or (replicate n 0) j 0 ≤ 0
-zeros_most zero j = omega arith
-zeros_most (suc n) zero = omega arith
-zeros_most (suc n) (suc j) = zeros_most n j
+down_most : (e : Entry) (i d j b : ℕ) (ds : List ℕ) → get_or ds j 0 ≤ b → d + 1 ≤ b → get_or (hand_down e i d ds) j 0 ≤ b
+down_most e i d j b ds h l =
+    cond_both (ltb i (names e.tag)) (set ds (operand_of e i) (d + binders e.tag i)) ds (λ x. get_or x j 0 ≤ b)
+    (λ _. set_most ds (operand_of e i) j (d + binders e.tag i) b h (omega (arith, binders_most e.tag i))) (λ _. h)
 
 -- a term stands under no more binders than there are terms above it
 pub depth_most : (i : ℕ) (es : List Entry) (j : ℕ) → get_or (depths_from i es) j 0 ≤ length es
-depth_most i [] j = zeros_most 1024 j
+depth_most i [] j = omega (arith, uses-none 1024 j)
 depth_most i (e ∷ es) j =
     let ds : List ℕ = depths_from (i + 1) es in
     let d : ℕ = get_or ds i 0 in
     let low : d ≤ length es = depth_most (i + 1) es i in
     let here : get_or ds j 0 ≤ length es = depth_most (i + 1) es j in
-    second_most e d j (length (e ∷ es)) (hand_first e d ds) (first_most e d j (length (e ∷ es)) ds (omega arith) (omega arith)) (omega arith)
+    down_most e 1 d j (length (e ∷ es)) (hand_down e 0 d ds) (down_most e 0 d j (length (e ∷ es)) ds (omega arith) (omega arith)) (omega arith)
 
-pub length_first : (e : Entry) (d : ℕ) (ds : List ℕ) → length (hand_first e d ds) ≡ length ds
-length_first e d ds =
-    cond_both (ltb 0 (names e.tag)) (set ds e.first (d + binds_first e.tag)) ds (λ x. length x ≡ length ds)
-    (λ _. length-set ds e.first (d + binds_first e.tag)) (λ _. refl)
-
-pub length_second : (e : Entry) (d : ℕ) (ds : List ℕ) → length (hand_second e d ds) ≡ length ds
-length_second e d ds =
-    cond_both (ltb 1 (names e.tag)) (set ds e.second (d + binds_second e.tag)) ds (λ x. length x ≡ length ds)
-    (λ _. length-set ds e.second (d + binds_second e.tag)) (λ _. refl)
+pub length_down : (e : Entry) (i d : ℕ) (ds : List ℕ) → length (hand_down e i d ds) ≡ length ds
+length_down e i d ds =
+    cond_both (ltb i (names e.tag)) (set ds (operand_of e i) (d + binders e.tag i)) ds (λ x. length x ≡ length ds)
+    (λ _. length-set ds (operand_of e i) (d + binders e.tag i)) (λ _. refl)
 
 pub length_depths : (i : ℕ) (es : List Entry) → length (depths_from i es) ≡ 1024
 length_depths i [] = refl
 length_depths i (e ∷ es) =
     let ds : List ℕ = depths_from (i + 1) es in
     let d : ℕ = get_or ds i 0 in
-    length_second e d (hand_first e d ds) ∙ (length_first e d ds ∙ length_depths (i + 1) es)
+    length_down e 1 d (hand_down e 0 d ds) ∙ (length_down e 0 d ds ∙ length_depths (i + 1) es)
 
 -- the term at i hands its depth down
 pub depths_more : (es : List Entry) (i : ℕ) → i < length es → hand (at es i) (get_or (depths_from (i + 1) (drop (i + 1) es)) i 0) (depths_from (i + 1) (drop (i + 1) es)) ≡ depths_from i (drop i es)

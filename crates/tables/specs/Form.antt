@@ -10,17 +10,18 @@ use Rattle.tables.specs.Sizes.{size}
 use Rattle.tables.specs.Uses.{uses}
 use Rattle.tables.specs.Depths.{depths, bound_at}
 
+-- Tag, operands and role code of an entry at place p: is the tag one of its table's, and are the operands as it asks?
+abbrev pub entry_asked : (ℕ → Bool) → Entry → ℕ → Bool → Bool → Answer
+entry_asked role e p tagged fits =
+    and_then (asks tagged (Tag p e.tag)) (and_then (asks fits (Operands p)) (asks (role_fits role e) (Role p e.third)))
+
 -- Tag, operands and role code of type i.
 abbrev pub type_asked : (ℕ → Bool) → Entry → ℕ → Answer
-type_asked role e i =
-    and_then (asks (type_tag e.tag) (Tag i e.tag))
-    (and_then (asks (type_operands e i) (Operands i)) (asks (role_fits role e) (Role i e.third)))
+type_asked role e i = entry_asked role e i (type_tag e.tag) (type_operands e i)
 
 -- Tag, operands and role code of term i, which stands at place p, in a job of t types.
 abbrev pub term_asked : (ℕ → Bool) → Entry → ℕ → ℕ → ℕ → Answer
-term_asked role e i t p =
-    and_then (asks (term_tag e.tag) (Tag p e.tag))
-    (and_then (asks (term_operands e i t) (Operands p)) (asks (role_fits role e) (Role p e.third)))
+term_asked role e i t p = entry_asked role e p (term_tag e.tag) (term_operands e i t)
 
 -- All that is asked of type i: itself, and that written out it has at most 4,096 parts.
 abbrev pub ask_type : (ℕ → Bool) → List Entry → ℕ → Answer

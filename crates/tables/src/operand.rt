@@ -2,7 +2,7 @@
 ghost use Rattle.std.specs.Prelude.{◌≡◌};
 ghost use Rattle.tables.specs.Asking.{asks};
 ghost use Rattle.tables.specs.Entries.{binds, names, one_operand, operand_of, role_fits, role_tag, term_operands, term_tag, type_operands, type_tag, value_operands};
-ghost use Rattle.tables.specs.Form.{term_asked, type_asked};
+ghost use Rattle.tables.specs.Form.{entry_asked, term_asked, type_asked};
 
 use crate::entry::Entry;
 use crate::fault::FormFault;
@@ -141,25 +141,27 @@ pub fn role_is<S: Scheme>(scheme: &S, e: Entry) -> bool
     !has_role(e.tag) || scheme.is_role(e.third)
 }
 
+// The questions of tag, operands and role to an entry, of which it is known whether the first two are answered with yes.
+fn ask_entry<S: Scheme>(
+    scheme: &S,
+    e: Entry,
+    place: u32,
+    tagged: bool,
+    fits: bool,
+) -> Result<(), FormFault>
+    ensures { result ≡ entry_asked (S.meaning scheme.now).role e place tagged fits }
+{
+    ask(tagged, FormFault::Tag { place, tag: e.tag })?;
+    ask(fits, FormFault::Operands { place })?;
+    let code = e.third;
+    ask(role_is(scheme, e), FormFault::Role { place, code })
+}
+
 /// The questions of tag, operands and role to type `i`.
 pub(crate) fn ask_type<S: Scheme>(scheme: &S, e: Entry, i: u32) -> Result<(), FormFault>
     ensures { result ≡ type_asked (S.meaning scheme.now).role e i }
 {
-    ask(
-        is_type(e.tag),
-        FormFault::Tag {
-            place: i,
-            tag: e.tag,
-        },
-    )?;
-    ask(type_fits(e, i), FormFault::Operands { place: i })?;
-    ask(
-        role_is(scheme, e),
-        FormFault::Role {
-            place: i,
-            code: e.third,
-        },
-    )
+    ask_entry(scheme, e, i, is_type(e.tag), type_fits(e, i))
 }
 
 /// The questions of tag, operands and role to term `i`, which stands at `place`, in a job of `t` types.
@@ -172,13 +174,5 @@ pub(crate) fn ask_term<S: Scheme>(
 ) -> Result<(), FormFault>
     ensures { result ≡ term_asked (S.meaning scheme.now).role e i t place }
 {
-    ask(is_term(e.tag), FormFault::Tag { place, tag: e.tag })?;
-    ask(term_fits(e, i, t), FormFault::Operands { place })?;
-    ask(
-        role_is(scheme, e),
-        FormFault::Role {
-            place,
-            code: e.third,
-        },
-    )
+    ask_entry(scheme, e, place, is_term(e.tag), term_fits(e, i, t))
 }

@@ -7,7 +7,7 @@ use Rattle.tables.specs.Depths.{binds_first, binds_second, hand_first, hand, dep
 use Rattle.tables.specs.Entries.{at, names}
 use Rattle.tables.specs.Lower.{Lower, Rooted}
 use Rattle.tables.specs.Uses.{hits, uses}
-use Rattle.tables.proofs.Handed.{length_first, length_depths, depths_more}
+use Rattle.tables.proofs.Handed.{length_down, length_depths, depths_more}
 use Rattle.tables.proofs.Used.{uses-more, uses-none}
 
 -- a write elsewhere, or none
@@ -66,7 +66,7 @@ hand_first_is e d j ds h b l =
 
 hand_second_is : (e : Entry) (d j : ℕ) (ds : List ℕ) → by_second e j ≡ true → j < length ds → get_or (hand e d ds) j 0 ≡ d + binds_second e.tag
 hand_second_is e d j ds b l =
-    let long : length (hand_first e d ds) ≡ length ds = length_first e d ds in
+    let long : length (hand_first e d ds) ≡ length ds = length_down e 0 d ds in
     put (ltb 1 (names e.tag)) e.second (d + binds_second e.tag) j (hand_first e d ds) b (omega arith)
 
 pub hits_above : (e : Entry) (k i : ℕ) → Lower e k → k ≤ i → hits e i ≡ 0

@@ -3,9 +3,9 @@ use Rattle.std.specs.Iterator.Adapters.{rev_source, enumerate_source, enumerate_
 use Rattle.std.specs.Slice.Iter.{iter_rest}
 use Rattle.std.specs.List.{push}
 use Rattle.tables.specs.declared.entry.Entry.{Entry}
-use Rattle.tables.specs.Depths.{hand_second, hand}
+use Rattle.tables.specs.Depths.{hand_down, hand}
 use Rattle.tables.specs.Lower.{Lower, Rooted}
-use Rattle.tables.proofs.Handed.{HandedTo, handed_none, handed_all, within, lower, low, handed_more, length_first, length_second}
+use Rattle.tables.proofs.Handed.{HandedTo, handed_none, handed_all, within, lower, low, handed_more, length_down}
 use Rattle.tables.proofs.terms.Terms.depths.Goals as goal
 
 -- what a term may be handed down with, and what has been handed down then
@@ -38,7 +38,7 @@ hand_down-requires-in-loop-i c =
     let s = c.in-Some.ensures.steps.1 in
     let v = c.loop-i.invariant in
     let t = turn _ _ _ c.loop-i.depths c.in-Some.e.now c.in-Some.i _ v.4 c.args.self.now.terms_few c.args.self.now.rooted v.2 s.0 s.1 in
-    (ap length c.hand_down.ensures ∙ (length_first c.in-Some.e.now _ c.loop-i.depths ∙ v.3), (t.inside, (t.lower, t.low)))
+    (ap length c.hand_down.ensures ∙ (length_down c.in-Some.e.now 0 _ c.loop-i.depths ∙ v.3), (t.inside, (t.lower, t.low)))
 
 pub loop-i-init : goal.loop-i-init
 loop-i-init c =
@@ -55,8 +55,8 @@ loop-i-preserved c =
     let d : ℕ = get_or c.loop-i.depths c.in-Some.i 0 in
     let e : Entry = c.in-Some.e.now in
     let t = turn _ _ _ c.loop-i.depths e c.in-Some.i _ v.4 c.args.self.now.terms_few c.args.self.now.rooted v.2 s.1.0 s.1.1 in
-    let after : c.hand_down-in-loop-i.new.depths ≡ hand e d c.loop-i.depths = c.hand_down-in-loop-i.ensures ∙ ap (hand_second e d) c.hand_down.ensures in
-    let l : length c.hand_down-in-loop-i.new.depths ≡ 1024 = ap length after ∙ (length_second e d _ ∙ (length_first e d c.loop-i.depths ∙ v.3)) in
+    let after : c.hand_down-in-loop-i.new.depths ≡ hand e d c.loop-i.depths = c.hand_down-in-loop-i.ensures ∙ ap (hand_down e 1 d) c.hand_down.ensures in
+    let l : length c.hand_down-in-loop-i.new.depths ≡ 1024 = ap length after ∙ (length_down e 1 d _ ∙ (length_down e 0 d c.loop-i.depths ∙ v.3)) in
     ((tt, tt, omega (arith, s.0, s.1.1, s.1.2)), tt, s.0 ∙ v.2, l, subst (λ x. HandedTo c.args.self.now.entries.now (iter_rest (enumerate_source (rev_source c.next.new.self))) x) (sym after) t.handed)
 
 pub returns : goal.returns
