@@ -1,14 +1,14 @@
 -- What an answer about an image says of the questions that it answers.
-use Rattle.std.proofs.Common.{◌≡◌, Bool, true, false, Ok, Err, sym, refl, ap}
+use Rattle.std.proofs.Common.{◌≡◌, Ok, Err, sym, refl, ap}
 use Rattle.tables.specs.declared.fault.FormFault.{FormFault}
 use Rattle.tables.specs.Asking as form
 use Rattle.tables.specs.Asking.{Asked, asks, told}
 use Rattle.jobs.specs.declared.fault.ImageFault.TheVariants.{Form}
 use Rattle.jobs.specs.Asking.{formed}
 
-pub form_yes : (b : Bool) (f : FormFault) → formed (asks b f) ≡ Ok tt → b ≡ true
-form_yes true f h = refl
-form_yes false f h = cc
+pub formed_ok : (a : form.Answer) → formed a ≡ Ok tt → a ≡ Ok tt
+formed_ok (Ok u) h = refl
+formed_ok (Err f) h = cc
 
 -- a call that returned a value had a yes to all, and the value is the one told
 pub told_yes : {F X : Type 0} (a : Asked F) (x y : X) → Ok y ≡ told a x → a ≡ Ok tt

@@ -1,12 +1,11 @@
 -- The two round trips.
-use Rattle.std.proofs.Common.{◌≡◌, ℕ, ◌+◌, ◌≤◌, ◌&&◌, leb, List, length, take, drop, Ok, Err, sym, refl, ap, ◌∙◌, subst, ap₂, arith}
+use Rattle.std.proofs.Common.{◌≡◌, ℕ, ◌≤◌, List, length, take, drop, Ok, sym, refl, ap, ◌∙◌, subst, ap₂, arith}
 use Rattle.roles.specs.Meaning.{Meaning}
 use Rattle.std.proofs.lemmas.List.FromFn.{length-map-range_with_len}
 use Rattle.std.proofs.lemmas.List.{take_at, length-append, length-drop, length-take-le}
-use Rattle.std.proofs.lemmas.Bool.{and_parts, leb-true, le-leb, eqb-true, eq-eqb}
+use Rattle.std.proofs.lemmas.Bool.{le-leb, eqb-true, eq-eqb}
 use Rattle.tables.specs.declared.entry.Entry.{Entry}
-use Rattle.tables.specs.declared.fault.FormFault.TheVariants.{Counts as Counted, Room}
-use Rattle.tables.specs.Asking.{Answer, asks, and_then, told}
+use Rattle.tables.specs.Asking.{asks, and_then, told}
 use Rattle.tables.specs.Form.{sound_asked, counts_asked, room_asked, entries_asked, form}
 use Rattle.tables.proofs.Asked.{and_first, and_second, asks_yes}
 use Rattle.jobs.specs.declared.fault.ImageFault.TheVariants.{Short, Length, Output}
@@ -14,13 +13,11 @@ use Rattle.jobs.specs.Asking.{formed, left}
 use Rattle.jobs.specs.Image.{types_told, terms_told, image_length, types_in, terms_in, image}
 use Rattle.jobs.specs.Reading.{short_asked, length_asked, outline_asked, asked_of, read_asked, types_left, terms_left, filled, counts_told}
 use Rattle.jobs.specs.Writing.{output_asked, write_asked}
+use Rattle.jobs.proofs.Asked.{formed_ok}
+use Rattle.jobs.proofs.Outlines.{few, wide}
 use Rattle.rounds.specs.Rounds.{Bytes, Fit, Rewritten, Rewriting, Reread, Rereading}
 use Rattle.rounds.proofs.Decoded.{image_same}
 use Rattle.rounds.proofs.Encoded.{types_back, terms_back, types_told_back, terms_told_back, length_image, fit_take}
-
-formed_ok : (a : Answer) → formed a ≡ Ok tt → a ≡ Ok tt
-formed_ok (Ok u) h = refl
-formed_ok (Err f) h = cc
 
 -- a table that was filled with t entries begins with them, and is as long as it was
 front : (es table : List Entry) (t : ℕ) → length es ≡ t → take t (filled es table) ≡ es
@@ -36,18 +33,6 @@ form_all m t n T M T' M' s k r et en e =
     ∙ (ap (λ x. and_then x (and_then (room_asked t n (length T) (length M)) (entries_asked m.role (take t T) (take n M)))) k
     ∙ (ap (λ x. and_then x (entries_asked m.role (take t T) (take n M))) r
     ∙ (ap₂ (λ (x y : List Entry). entries_asked m.role x y) et en ∙ e)))
-
-few : (t n : ℕ) → counts_asked t n ≡ Ok tt → (t ≤ 512) × (n ≤ 1024)
-few t n h =
-    let all = and_parts (leb t 512 && leb 1 n) (leb n 1024) (asks_yes _ (Counted t n) h) in
-    (leb-true t 512 (and_parts (leb t 512) (leb 1 n) all.0).0, leb-true n 1024 all.1)
-
-wide : (t n a b : ℕ) → room_asked t n a b ≡ Ok tt → (t + n ≤ a) × (n ≤ b)
-wide t n a b h =
-    let three = (and_parts (leb (t + n) a && leb n b && leb a 16384) (leb b 16384) (asks_yes _ (Room a b) h)).0 in
-    let two = (and_parts (leb (t + n) a && leb n b) (leb a 16384) three).0 in
-    let one = and_parts (leb (t + n) a) (leb n b) two in
-    (leb-true (t + n) a one.0, leb-true n b one.1)
 
 -- the parts of an outline that was answered with yes
 module _ (m : Meaning) (bs : List ℕ) (t n a b : ℕ) where
@@ -95,8 +80,8 @@ module _ (m : Meaning) (bs out : List ℕ) (T M : List Entry) (b : Bytes bs) (lo
       let w = wide t n (length T) (length M) r in
       let lt : length (types_in bs t n) ≡ t = length-map-range_with_len _ 0 t in
       let ln : length (terms_in bs t n) ≡ n = length-map-range_with_len _ 0 n in
-      let a : length (types_left m bs T M) ≡ length T = ap length types_are ∙ length_filled (types_in bs t n) T (omega (arith, w.0)) in
-      let z : length (terms_left m bs T M) ≡ length M = ap length terms_are ∙ length_filled (terms_in bs t n) M (omega (arith, w.1)) in
+      let a : length (types_left m bs T M) ≡ length T = ap length types_are ∙ length_filled (types_in bs t n) T (omega (arith, w.types)) in
+      let z : length (terms_left m bs T M) ≡ length M = ap length terms_are ∙ length_filled (terms_in bs t n) M (omega (arith, w.terms)) in
       ap₂ (λ (x y : ℕ). room_asked t n x y) a z ∙ r
 
   write_ok : write_asked m t n (types_left m bs T M) (terms_left m bs T M) (length out) ≡ Ok tt
@@ -138,22 +123,22 @@ module _ (m : Meaning) (t n : ℕ) (T M T' M' : List Entry) (fT : Fit T) (fM : F
   long_types : length TT ≡ t
   long_types =
       let w = wide t n (length T) (length M) (and_first (room_asked t n (length T) (length M)) _ after_counts) in
-      length-take-le t T (omega (arith, w.0))
+      length-take-le t T (omega (arith, w.types))
 
   long_terms : length MM ≡ n
   long_terms =
       let w = wide t n (length T) (length M) (and_first (room_asked t n (length T) (length M)) _ after_counts) in
-      length-take-le n M w.1
+      length-take-le n M w.terms
 
   told_types : types_told img ≡ t
   told_types =
       let l = long_types in
-      types_told_back TT MM (omega (arith, (few t n counts_ok).0)) ∙ l
+      types_told_back TT MM (omega (arith, (few t n counts_ok).types)) ∙ l
 
   told_terms : terms_told img ≡ n
   told_terms =
       let l = long_terms in
-      terms_told_back TT MM (omega (arith, (few t n counts_ok).1)) ∙ l
+      terms_told_back TT MM (omega (arith, (few t n counts_ok).terms)) ∙ l
 
   long_image : length img ≡ image_length t n
   long_image = length_image TT MM ∙ ap₂ image_length long_types long_terms
