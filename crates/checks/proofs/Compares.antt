@@ -197,8 +197,8 @@ begins m α es used a b xs zs bu e q =
     P : Pair
     P = record { left = a; right = b; forward = true }
 
-pub popped_leads : (m : Meaning) (α : System) (es : List Entry) (used a b : ℕ) (P : Pair) (xs zs : List Pair) → zs ≡ xs ++ option_to_list (Some P) → Leads m α es used a b (stack zs) → Leads m α es used a b (P ∷ stack xs)
-popped_leads m α es used a b P xs zs q w = subst (Leads m α es used a b) (popped P xs zs q) w
+pub popped_leads : {m : Meaning} {α : System} {es : List Entry} {used a b : ℕ} (P : Pair) (xs zs : List Pair) → zs ≡ xs ++ option_to_list (Some P) → Leads m α es used a b (stack zs) → Leads m α es used a b (P ∷ stack xs)
+popped_leads {m} {α} {es} {used} {a} {b} P xs zs q w = subst (Leads m α es used a b) (popped P xs zs q) w
 
 module _ {m : Meaning} {α : System} {es : List Entry} {used a b : ℕ} {P : Pair} {ps : List Pair} (au : a < used) (um : used ≤ 2048) (g : Grounded m.role es used) (w : Leads m α es used a b (P ∷ ps)) where
   pub left_there : P.left < used

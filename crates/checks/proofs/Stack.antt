@@ -181,12 +181,9 @@ module _ (m : Meaning) (L : Lawful m) (α : System) (t : ℕ) (T₀ es : List En
     v_there h = f.seen h
 
     -- the entry is finished
-    ready : names E.tag ≤ F.stage → u ≤ length T → u ≤ 2048 → Ready m T u E F.first v
-    ready h a b = record {
+    ready : names E.tag ≤ F.stage → Ready m T u E F.first v
+    ready h = record {
       sound = wk.sound;
-      long = a;
-      small = b;
-      ground = f.ground;
       own = (t, F.number, f.since, placed);
       one = λ o. v_there (omega arith);
       two = λ o. sits.kept (omega arith);
@@ -240,9 +237,9 @@ module _ (m : Meaning) (L : Lawful m) (α : System) (t : ℕ) (T₀ es : List En
           sym (ap (pend m α t es bs fs) (todo_done m α t es F.number F.stage F.first (env bs F.depth) T u v h)
           ∙ ap (λ q. pend m α t es bs fs (settled q T u)) told)
 
-      finish_good : u ≤ length T → u ≤ 2048 → Good m.role u J
-      finish_good a c =
-          subst (Good m.role u) told (judge_good m L α (t + F.number) T u E F.first v (ready h a c) (bound_of (env bs F.depth) E) bound_low)
+      finish_good : Good m.role u J
+      finish_good =
+          subst (Good m.role u) told (judge_good m L α (t + F.number) T u F.first v f.ground (bound_of (env bs F.depth) E) E (ready h) bound_low)
 
     -- an operand is refused
     stop_pend : F.stage < names E.tag → enters_of T E F.stage v ≡ false → pend m α t es bs (F ∷ fs) (going T u v) ≡ stopped T (NoComputation (t + F.number))
@@ -364,6 +361,9 @@ no_told false f c h = (refl, cc)
 
 -- where a walk stands: what the frames leave to do gives the answer, and there is room for the types that they make
 pub record Stands (m : Meaning) (α : System) (t : ℕ) (T₀ es T : List Entry) (u v : ℕ) (bs : List ℕ) (fs : List Frame) : Type 0 where
+  pub lawful : Lawful m
+  pub walkable : Walkable m t T₀ es
+  pub long : length T ≡ length T₀
   pub fits : Fits m t es T u v bs fs
   pub room : u + pend_sum m α t es 0 fs ≤ t + length es
   pub leads : pend m α t es bs fs (going T u v) ≡ walk_of m α t es (length es - 1) [] T₀ t
@@ -371,13 +371,19 @@ pub record Stands (m : Meaning) (α : System) (t : ℕ) (T₀ es T : List Entry)
 pub begins : (m : Meaning) (L : Lawful m) (α : System) (t : ℕ) (T₀ es : List Entry) → Walkable m t T₀ es → (bs : List ℕ) → length bs ≡ 1024 → (F : Frame) → F ≡ opened (length es - 1) 0 → (xs zs : List Frame) → xs ≡ [] → zs ≡ xs ++ F ∷ [] → Stands m α t T₀ es T₀ t 0 bs (stack zs)
 begins m L α t T₀ es wk bs l F q xs zs o p =
     subst (Stands m α t T₀ es T₀ t 0 bs) (sym (pushed xs (F ∷ []) zs p ∙ (ap (λ (z : List Frame). F ∷ stack z) o ∙ ap (λ (H : Frame). H ∷ []) q)))
-    (record { fits = start_fits m L α t T₀ es wk bs l; room = omega (arith, start_sum m L α t T₀ es wk); leads = start_pend m L α t T₀ es wk bs })
+    (record { lawful = L; walkable = wk; long = refl; fits = start_fits m L α t T₀ es wk bs l; room = omega (arith, start_sum m L α t T₀ es wk); leads = start_pend m L α t T₀ es wk bs })
 
-pub popped_stands : (m : Meaning) (α : System) (t : ℕ) (T₀ es T : List Entry) (u v : ℕ) (bs : List ℕ) (F : Frame) (xs zs : List Frame) → zs ≡ xs ++ option_to_list (Some F) → Stands m α t T₀ es T u v bs (stack zs) → Stands m α t T₀ es T u v bs (F ∷ stack xs)
-popped_stands m α t T₀ es T u v bs F xs zs q w = subst (Stands m α t T₀ es T u v bs) (popped F xs zs q) w
+pub popped_stands : {m : Meaning} {α : System} {t : ℕ} {T₀ es T : List Entry} {u v : ℕ} {bs : List ℕ} (F : Frame) (xs zs : List Frame) → zs ≡ xs ++ option_to_list (Some F) → Stands m α t T₀ es T u v bs (stack zs) → Stands m α t T₀ es T u v bs (F ∷ stack xs)
+popped_stands {m} {α} {t} {T₀} {es} {T} {u} {v} {bs} F xs zs q w = subst (Stands m α t T₀ es T u v bs) (popped F xs zs q) w
 
 -- the frame on top
-module _ {m : Meaning} {α : System} {t : ℕ} {T₀ es T : List Entry} {u v : ℕ} {bs : List ℕ} {F : Frame} {fs : List Frame} (L : Lawful m) (wk : Walkable m t T₀ es) (long : length T ≡ length T₀) (w : Stands m α t T₀ es T u v bs (F ∷ fs)) where
+module _ {m : Meaning} {α : System} {t : ℕ} {T₀ es T : List Entry} {u v : ℕ} {bs : List ℕ} {F : Frame} {fs : List Frame} (w : Stands m α t T₀ es T u v bs (F ∷ fs)) where
+  abbrev L : Lawful m
+  L = w.lawful
+
+  abbrev wk : Walkable m t T₀ es
+  wk = w.walkable
+
   abbrev answer : Walked
   answer = walk_of m α t es (length es - 1) [] T₀ t
 
@@ -391,10 +397,16 @@ module _ {m : Meaning} {α : System} {t : ℕ} {T₀ es T : List Entry} {u v : �
   owns = placed m L α t T₀ es wk T u v bs F fs w.fits
 
   free : u < length T
-  free = omega (arith, w.room, wk.room)
+  free = omega (arith, w.long, w.room, wk.room)
 
-  few : u ≤ 2048
-  few = omega (arith, w.room, wk.small, wk.few)
+  pub types_long : u ≤ length T
+  types_long = omega (arith, free)
+
+  pub types_few : u ≤ 2048
+  types_few = omega (arith, w.room, wk.small, wk.few)
+
+  pub types_ground : Grounded m.role T u
+  types_ground = w.fits.ground
 
   pub found_there : 0 < F.stage → v < length T
   found_there h = omega (arith, free, w.fits.seen h)
@@ -403,7 +415,7 @@ module _ {m : Meaning} {α : System} {t : ℕ} {T₀ es T : List Entry} {u v : �
   deep = omega (arith, w.fits.sit.1.deep, w.fits.sit.1.low, wk.few, wk.some)
 
   pub top_ready : names top.tag ≤ F.stage → Ready m T u top F.first v
-  top_ready h = ready m L α t T₀ es wk T u v bs F fs w.fits h (omega (arith, free)) few
+  top_ready h = ready m L α t T₀ es wk T u v bs F fs w.fits h
 
   pub top_bound : top.tag ≡ 17 → top.first < F.depth
   top_bound h = variable_bound m L α t T₀ es wk T u v bs F fs w.fits h
@@ -427,6 +439,9 @@ module _ {m : Meaning} {α : System} {t : ℕ} {T₀ es T : List Entry} {u v : �
 
     stands : Stands m α t T₀ es T u v (set bs F.depth y) (B ∷ A ∷ fs)
     stands = record {
+      lawful = L;
+      walkable = wk;
+      long = w.long;
       fits = subst₂ (λ (a b : Frame). Fits m t es T u v (set bs F.depth y) (b ∷ a ∷ fs)) (sym ae) (sym be) (push_fits m L α t T₀ es wk T u v bs F fs w.fits y more en ye);
       room = omega (arith, sum_more 0, w.room);
       leads = ap₂ (λ (a b : Frame). pend m α t es (set bs F.depth y) (b ∷ a ∷ fs) (going T u v)) ae be ∙ (push_pend m L α t T₀ es wk T u v bs F fs w.fits y more en ye ∙ w.leads);
@@ -446,13 +461,16 @@ module _ {m : Meaning} {α : System} {t : ℕ} {T₀ es T : List Entry} {u v : �
     finish = finish_pend m L α t T₀ es wk T u v bs F fs w.fits b J be Je h ∙ w.leads
 
     goods : Good m.role u J
-    goods = finish_good m L α t T₀ es wk T u v bs F fs w.fits b J be Je h (omega (arith, free)) few
+    goods = finish_good m L α t T₀ es wk T u v bs F fs w.fits b J be Je h
 
     pub failed : (c : TypingFault) → J ≡ Err c → stopped T c ≡ answer
     failed c q = sym (ap (λ (j : Judged). pend m α t es bs fs (settled j T u)) q ∙ pend_stopped m α t es bs fs T c) ∙ finish
 
     pub known_stands : (x : ℕ) → J ≡ known x → Stands m α t T₀ es T u x bs fs
     known_stands x q = record {
+      lawful = L;
+      walkable = wk;
+      long = w.long;
       fits = pop_same m L α t T₀ es wk T u v bs F fs w.fits x (subst (Good m.role u) q goods);
       room = omega (arith, w.room);
       leads = ap (λ (j : Judged). pend m α t es bs fs (settled j T u)) (sym q) ∙ finish;
@@ -460,6 +478,9 @@ module _ {m : Meaning} {α : System} {t : ℕ} {T₀ es T : List Entry} {u v : �
 
     pub fresh_stands : (x : Entry) → J ≡ fresh x → Stands m α t T₀ es (set T u x) (u + 1) u bs fs
     fresh_stands x q = record {
+      lawful = L;
+      walkable = wk;
+      long = length-set T u x ∙ w.long;
       fits = pop_fresh m L α t T₀ es wk T u v bs F fs w.fits x (subst (Good m.role u) q goods) free;
       room = omega (arith, w.room);
       leads = ap (λ (j : Judged). pend m α t es bs fs (settled j T u)) (sym q) ∙ finish;

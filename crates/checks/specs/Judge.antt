@@ -1,10 +1,10 @@
 -- The rules of the walk by the tag of a term, when the walk of its operands is done. Assumes nothing.
-use Rattle.std.specs.Prelude.{◌≡◌, ℕ, ◌<◌, ◌≤◌, true, cond, List, length, ◌==◌, slice_index}
+use Rattle.std.specs.Prelude.{◌≡◌, ℕ, ◌<◌, ◌≤◌, true, cond, List, ◌==◌, slice_index}
 use Rattle.roles.specs.Meaning.{Meaning}
 use Rattle.calculus.specs.Subtyping.{System}
 use Rattle.tables.specs.declared.entry.Entry.{Entry}
 use Rattle.tables.specs.Entries.{at, names}
-use Rattle.walks.specs.Places.{Grounded, Placed}
+use Rattle.walks.specs.Places.{Placed}
 use Rattle.walks.specs.Rules.{Judged, known, fresh, base_type, function_type, guarded_type, computation_type, claim_of, applied, fixed, checked, joined, raised, restricted}
 
 -- The type of the binder of a variable, by the types of the binders around it, the innermost first.
@@ -26,12 +26,9 @@ judge_of m α p T e f x b =
     (cond (e.tag == 25) (raised m p T e.third x)
     (restricted m α p T e.third x))))))))))
 
--- All that is looked at is there: the first u types are types of a sound scheme, and so are the operands' types and the claims.
+-- All that is looked at is there, where the first u types are types: the operands' types and the claims are among them, and the scheme is sound.
 pub record Ready (m : Meaning) (T : List Entry) (u : ℕ) (e : Entry) (f x : ℕ) : Type 0 where
   pub sound : m.sound ≡ true
-  pub long : u ≤ length T
-  pub small : u ≤ 2048
-  pub ground : Grounded m.role T u
   pub own : (t : ℕ) × (k : ℕ) × (t ≤ u) × Placed m.role t k e
   pub one : 1 ≤ names e.tag → x < u
   pub two : 2 ≤ names e.tag → f < u

@@ -2,12 +2,12 @@
 ghost use Rattle.std.specs.Prelude.{◌≡◌, ◌+◌, ◌<◌, ◌≤◌, length, ◌++◌};
 ghost use Rattle.arrayvec.specs.ArrayVec.{array_vec_len};
 ghost use Rattle.calculus.specs.Inference.{role_test_way};
-ghost use Rattle.walks.specs.Places.{Grounded};
 ghost use Rattle.walks.specs.Rules as rule;
 ghost use Rattle.checks.specs.Compare.{alike_of, operands_of};
 ghost use Rattle.checks.specs.Systems.{meant};
 
 use crate::system::System;
+use crate::table::Types;
 use arrayvec::ArrayVec;
 use roles::scheme::Scheme;
 use tables::entry::Entry;
@@ -19,36 +19,6 @@ pub(crate) struct Pair {
     left: u32,
     right: u32,
     forward: bool,
-}
-
-// The role test of a system, forward or back.
-fn role_test<S: Scheme>(scheme: &S, system: System, forward: bool, a: u64, b: u64) -> bool
-    ensures { result ≡ role_test_way (S.meaning scheme.now) (meant system) forward a b }
-{
-    let upward = match system {
-        System::Sufficient => !forward,
-        System::Necessary => forward,
-    };
-    if upward {
-        scheme.dominates(a, b)
-    } else {
-        scheme.dominates(b, a)
-    }
-}
-
-// Do two types agree in all but the types that they name?
-fn alike<S: Scheme>(scheme: &S, system: System, forward: bool, x: Entry, y: Entry) -> bool
-    ensures { result ≡ alike_of (S.meaning scheme.now) (meant system) forward x y }
-{
-    if x.tag != y.tag {
-        false
-    } else if x.tag == BASE {
-        x.first == y.first
-    } else if x.tag == FUNCTION {
-        true
-    } else {
-        role_test(scheme, system, forward, x.third, y.third)
-    }
 }
 
 // Pushes what two alike types leave to compare: nothing, two inner types, or two results and then two arguments, which turn.
@@ -76,31 +46,56 @@ fn push_operands(pairs: &mut ArrayVec<Pair, 2048>, forward: bool, x: Entry, y: E
     }
 }
 
-/// Is type `a` below type `b`, where the first `used` types of the table are there?
-pub(crate) fn below<S: Scheme>(
-    scheme: &S,
-    system: System,
-    types: &[Entry],
-    used: u32,
-    a: u32,
-    b: u32,
-) -> bool
-    requires { (used ≤ length types.now) × ((used ≤ 2048) × ((a < used) × ((b < used) × (Grounded (S.meaning scheme.now).role types.now used)))) }
-    ensures { result ≡ rule.below (S.meaning scheme.now) (meant system) types.now a b }
-{
-    let mut pairs = ArrayVec::<Pair, 2048>::new();
-    pairs.push(Pair {
-        left: a,
-        right: b,
-        forward: true,
-    });
-    while let Some(pair) = pairs.pop() {
-        let x = types[pair.left as usize];
-        let y = types[pair.right as usize];
-        if !alike(scheme, system, pair.forward, x, y) {
-            return false;
+impl<S: Scheme> Types<'_, S> {
+    // The role test of the system, forward or back.
+    fn role_test(&self, forward: bool, a: u64, b: u64) -> bool
+        ensures { result ≡ role_test_way (S.meaning self.now.scheme.now) (meant self.now.system) forward a b }
+    {
+        let upward = match self.system {
+            System::Sufficient => !forward,
+            System::Necessary => forward,
+        };
+        if upward {
+            self.scheme.dominates(a, b)
+        } else {
+            self.scheme.dominates(b, a)
         }
-        push_operands(&mut pairs, pair.forward, x, y);
     }
-    true
+
+    // Do two types agree in all but the types that they name?
+    fn alike(&self, forward: bool, x: Entry, y: Entry) -> bool
+        ensures { result ≡ alike_of (S.meaning self.now.scheme.now) (meant self.now.system) forward x y }
+    {
+        if x.tag != y.tag {
+            false
+        } else if x.tag == BASE {
+            x.first == y.first
+        } else if x.tag == FUNCTION {
+            true
+        } else {
+            self.role_test(forward, x.third, y.third)
+        }
+    }
+
+    /// Is type `a` below type `b`?
+    pub(crate) fn below(&self, a: u32, b: u32) -> bool
+        requires { (a < self.now.used) × (b < self.now.used) }
+        ensures { result ≡ rule.below (S.meaning self.now.scheme.now) (meant self.now.system) self.now.entries.now a b }
+    {
+        let mut pairs = ArrayVec::<Pair, 2048>::new();
+        pairs.push(Pair {
+            left: a,
+            right: b,
+            forward: true,
+        });
+        while let Some(pair) = pairs.pop() {
+            let x = self.entries[pair.left as usize];
+            let y = self.entries[pair.right as usize];
+            if !self.alike(pair.forward, x, y) {
+                return false;
+            }
+            push_operands(&mut pairs, pair.forward, x, y);
+        }
+        true
+    }
 }

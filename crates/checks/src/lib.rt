@@ -7,4 +7,5 @@ pub mod compare;
 pub mod fault;
 pub mod judge;
 pub mod system;
+pub mod table;
 pub mod walk;

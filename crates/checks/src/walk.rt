@@ -7,8 +7,9 @@ ghost use Rattle.checks.specs.Frames.{advanced, opened, binder_of, deeper_of, en
 ghost use Rattle.checks.specs.Judge.{bound_of};
 ghost use Rattle.checks.specs.Systems.{meant};
 
-use crate::judge::{claim, judge};
+use crate::judge::claim;
 use crate::system::System;
+use crate::table::Types;
 use arrayvec::ArrayVec;
 use roles::scheme::Scheme;
 use tables::entry::Entry;
@@ -128,8 +129,13 @@ pub(crate) fn walk<S: Scheme>(
             frames.push(enter(e, frame));
         } else {
             let bound = lookup(&binders, frame.depth, e);
-            let first = frame.first;
-            let found = judge(scheme, system, place, types, used, e, first, last, bound)?;
+            let known = Types {
+                scheme,
+                system,
+                entries: &*types,
+                used,
+            };
+            let found = known.judge(place, e, frame.first, last, bound)?;
             match found {
                 Finding::Known(ty) => last = ty,
                 Finding::New(entry) => {
