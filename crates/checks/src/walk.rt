@@ -28,6 +28,42 @@ pub(crate) struct Frame {
     depth: u32,
 }
 
+impl Frame {
+    // A term of which no operand is walked.
+    fn open(number: u32, depth: u32) -> Frame
+        ensures { result ≡ opened number depth }
+    {
+        Frame {
+            number,
+            stage: 0,
+            first: 0,
+            depth,
+        }
+    }
+
+    // The operand of `e` that is entered next.
+    fn enter(self, e: Entry) -> Frame
+        requires { self.depth < 1024 }
+        ensures { result ≡ opened (operand_of e self.stage) (deeper_of e self.stage self.depth) }
+    {
+        let bound = binds(e.tag, self.stage);
+        let depth = if bound { self.depth + 1 } else { self.depth };
+        Frame::open(operand_of(e, self.stage), depth)
+    }
+
+    // The term with one more operand entered, where `last` was found before it.
+    fn next(self, last: u32) -> Frame
+        requires { self.stage < 2 }
+        ensures { result ≡ advanced self last }
+    {
+        Frame {
+            stage: self.stage + 1,
+            first: last,
+            ..self
+        }
+    }
+}
+
 // The type of a variable's binder.
 fn lookup(binders: &[u32], depth: u32, e: Entry) -> u32
     requires { (depth ≤ length binders.now) × ((e.tag ≡ 17 → e.first < depth)) }
@@ -45,11 +81,7 @@ fn enters(types: &[Entry], e: Entry, stage: u8, last: u32) -> bool
     requires { e.tag ≡ 24 → stage ≡ 1 → last < length types.now }
     ensures { result ≡ enters_of types.now e stage last }
 {
-    if e.tag != LET || stage != 1 {
-        true
-    } else {
-        types[last as usize].tag == COMPUTATION
-    }
+    e.tag != LET || stage != 1 || types[last as usize].tag == COMPUTATION
 }
 
 // The type of the variable that is bound in the operand, if any is.
@@ -57,46 +89,10 @@ fn binder(system: System, types: &[Entry], e: Entry, stage: u8, last: u32) -> u3
     requires { ((e.tag ≡ 24 → stage ≡ 1 → last < length types.now)) × ((e.tag ≡ 18 → e.third < 2 ^ 32)) }
     ensures { result ≡ binder_of (meant system) types.now e stage last }
 {
-    if e.tag == ABSTRACTION {
-        claim(system, e)
-    } else if e.tag == LET && stage == 1 {
-        types[last as usize].first
-    } else {
-        0
-    }
-}
-
-// A term of which no operand is walked.
-fn open(number: u32, depth: u32) -> Frame
-    ensures { result ≡ opened number depth }
-{
-    Frame {
-        number,
-        stage: 0,
-        first: 0,
-        depth,
-    }
-}
-
-// The operand that is entered next.
-fn enter(e: Entry, frame: Frame) -> Frame
-    requires { frame.depth < 1024 }
-    ensures { result ≡ opened (operand_of e frame.stage) (deeper_of e frame.stage frame.depth) }
-{
-    let bound = binds(e.tag, frame.stage);
-    let depth = if bound { frame.depth + 1 } else { frame.depth };
-    open(operand_of(e, frame.stage), depth)
-}
-
-// The term with one more operand entered, where `last` was found before it.
-fn next(frame: Frame, last: u32) -> Frame
-    requires { frame.stage < 2 }
-    ensures { result ≡ advanced frame last }
-{
-    Frame {
-        stage: frame.stage + 1,
-        first: last,
-        ..frame
+    match (e.tag, stage) {
+        (ABSTRACTION, _) => claim(system, e),
+        (LET, 1) => types[last as usize].first,
+        _ => 0,
     }
 }
 
@@ -114,7 +110,7 @@ pub(crate) fn walk<S: Scheme>(
     ensures there { (x : ℕ) → result ≡ Ok x → x < length types.new }
 {
     let mut frames = ArrayVec::<Frame, 1024>::new();
-    frames.push(open(terms.len() as u32 - 1, 0));
+    frames.push(Frame::open(terms.len() as u32 - 1, 0));
     let mut binders = [0u32; 1024];
     let mut used = t;
     let mut last: u32 = 0;
@@ -125,8 +121,8 @@ pub(crate) fn walk<S: Scheme>(
             let walked = enters(types, e, frame.stage, last);
             ask(walked, TypingFault::NoComputation { place })?;
             binders[frame.depth as usize] = binder(system, types, e, frame.stage, last);
-            frames.push(next(frame, last));
-            frames.push(enter(e, frame));
+            frames.push(frame.next(last));
+            frames.push(frame.enter(e));
         } else {
             let bound = lookup(&binders, frame.depth, e);
             let known = Types {
