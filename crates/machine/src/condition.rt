@@ -2,6 +2,8 @@
 ghost use Rattle.std.specs.Prelude.{◌≡◌};
 ghost use Rattle.machine.specs.Conditions.{ends, number_of, values_of};
 
+use std::fmt;
+
 /// How a run stands.
 #[derive(Clone, Copy, PartialEq, Eq, Debug)]
 pub enum Condition {
@@ -56,9 +58,25 @@ impl Condition {
     pub fn ended(self) -> bool
         ensures { result ≡ ends self }
     {
+        !matches!(self, Condition::Going | Condition::TableFull)
+    }
+}
+
+impl fmt::Display for Condition {
+    fn fmt<W: fmt::Write>(&self, f: &mut fmt::Formatter<W>) -> fmt::Result {
         match self {
-            Condition::Going | Condition::TableFull => false,
-            _ => true,
+            Condition::Going => write!(f, "going"),
+            Condition::Finished => write!(f, "finished"),
+            Condition::RoleFault {
+                check,
+                guard,
+                context,
+            } => write!(
+                f,
+                "role fault at entry {check}, guard {guard}, context {context}"
+            ),
+            Condition::ShapeFault { entry } => write!(f, "shape fault at entry {entry}"),
+            Condition::TableFull => write!(f, "table full"),
         }
     }
 }

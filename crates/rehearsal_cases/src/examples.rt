@@ -7,13 +7,6 @@ use std::alloc::{AllocError, Global};
 use std::test::Fail;
 use tables::entry::{Counts, Entry};
 
-const NO_ENTRY: Entry = Entry {
-    tag: 0,
-    first: 0,
-    second: 0,
-    third: 0,
-};
-
 // One entry.
 fn e(tag: u8, first: u32, second: u32, third: u64) -> Entry {
     Entry {
@@ -35,7 +28,7 @@ fn lines(
     if terms.len() > 1024 {
         return Ok(String::new(heap));
     }
-    let mut types = [NO_ENTRY; 1025];
+    let mut types = [Entry::default(); 1025];
     types[0] = e(1, 0, 0, 0);
     let counts = Counts {
         types: 1,

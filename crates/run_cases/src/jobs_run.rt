@@ -1,5 +1,6 @@
 //! Small jobs.
-use crate::bench::{NO_ENTRY, e, play};
+use crate::bench::{e, play};
+use tables::entry::Entry;
 
 #[test]
 fn a_unit_alone_is_finished_with_no_budget(rt: HostRuntime) {
@@ -11,13 +12,18 @@ fn a_unit_alone_is_finished_with_no_budget(rt: HostRuntime) {
 
 #[test]
 fn a_check_passes_faults_and_halts_for_places(rt: HostRuntime) {
-    let job = [e(16, 0, 0, 0), e(21, 0, 0, 4), e(22, 1, 0, 0), NO_ENTRY];
+    let job = [
+        e(16, 0, 0, 0),
+        e(21, 0, 0, 4),
+        e(22, 1, 0, 0),
+        Entry::default(),
+    ];
     let mut terms = job;
     assert_eq!(rt; play(&mut terms, 3, 4, 9), [0, 1, 1, 0, 0, 0, 4, 3]);
     assert_eq!(rt; terms[3], e(23, 0, 0, 0));
     let mut terms = job;
     assert_eq!(rt; play(&mut terms, 3, 3, 9), [0, 0, 2, 2, 4, 3, 3, 2]);
-    assert_eq!(rt; terms[3], NO_ENTRY);
+    assert_eq!(rt; terms[3], Entry::default());
     let mut short = [e(16, 0, 0, 0), e(21, 0, 0, 4), e(22, 1, 0, 0)];
     assert_eq!(rt; play(&mut short, 3, 4, 9), [0, 0, 4, 0, 0, 0, 3, 2]);
     assert_eq!(rt; play(&mut short, 3, 4, 0), [0, 0, 0, 0, 0, 0, 3, 2]);
@@ -45,9 +51,9 @@ fn a_let_hands_over_what_is_inside(rt: HostRuntime) {
         e(17, 0, 0, 0),
         e(23, 3, 0, 0),
         e(24, 2, 4, 0),
-        NO_ENTRY,
-        NO_ENTRY,
-        NO_ENTRY,
+        Entry::default(),
+        Entry::default(),
+        Entry::default(),
     ];
     assert_eq!(rt; play(&mut terms, 6, 1, 9), [0, 2, 1, 0, 0, 0, 9, 8]);
     assert_eq!(rt; terms[6], e(23, 0, 0, 0));

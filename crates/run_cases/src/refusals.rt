@@ -1,50 +1,48 @@
 //! What starts and advances refuse.
-use crate::bench::{MASK, NO_ENTRY, e, play, start};
+use crate::bench::{MASK, e, play, start};
 use masks::Mask;
 use roles::fault::Fault;
-
-// Four advances of one run: under an unsound scheme, one whose roles are fewer, past the limit of steps, and after the end.
-fn refused() -> [u8; 5] {
-    let mut terms = [e(16, 0, 0, 0), e(21, 0, 0, 4), e(22, 1, 0, 0), NO_ENTRY];
-    match start(&terms, 3, 4) {
-        Err(_) => [0; 5],
-        Ok(mut run) => {
-            let unsound = run.advance(&Mask { width: 0 }, &mut terms, 1);
-            let no_role = run.advance(&Mask { width: 2 }, &mut terms, 1);
-            let too_many = run.advance(&MASK, &mut terms, 1 << 32);
-            let made = run.advance(&MASK, &mut terms, 1);
-            let ended = run.advance(&MASK, &mut terms, 1);
-            let _look = run.close();
-            [
-                number(unsound),
-                number(no_role),
-                number(too_many),
-                number(made),
-                number(ended),
-            ]
-        }
-    }
-}
+use runs::fault::RunFault;
+use runs::run::Progress;
+use tables::entry::Entry;
 
 // The number of a refusal, or 0.
-fn number(told: Result<runs::run::Progress, runs::fault::RunFault>) -> u8 {
+fn number(told: Result<Progress, RunFault>) -> u8 {
     match told {
         Ok(_) => 0,
         Err(fault) => fault.number(),
     }
 }
 
+// Five advances of one run: under an unsound scheme, one whose roles are fewer, past the limit of steps, and before and after the end.
+fn refused() -> [u8; 5] {
+    let mut terms = [
+        e(16, 0, 0, 0),
+        e(21, 0, 0, 4),
+        e(22, 1, 0, 0),
+        Entry::default(),
+    ];
+    let Ok(mut run) = start(&terms, 3, 4) else {
+        return [0; 5];
+    };
+    let unsound = run.advance(&Mask { width: 0 }, &mut terms, 1);
+    let no_role = run.advance(&Mask { width: 2 }, &mut terms, 1);
+    let too_many = run.advance(&MASK, &mut terms, 1 << 32);
+    let made = run.advance(&MASK, &mut terms, 1);
+    let ended = run.advance(&MASK, &mut terms, 1);
+    let _look = run.close();
+    [unsound, no_role, too_many, made, ended].map(number)
+}
+
 // The number of the refusal of an advance of a run of a check in another table.
-fn in_table(table: &mut [tables::entry::Entry]) -> u8 {
+fn in_table(table: &mut [Entry]) -> u8 {
     let terms = [e(16, 0, 0, 0), e(21, 0, 0, 4), e(22, 1, 0, 0)];
-    match start(&terms, 3, 4) {
-        Err(_) => 255,
-        Ok(mut run) => {
-            let told = run.advance(&MASK, table, 1);
-            let _look = run.close();
-            number(told)
-        }
-    }
+    let Ok(mut run) = start(&terms, 3, 4) else {
+        return 255;
+    };
+    let told = run.advance(&MASK, table, 1);
+    let _look = run.close();
+    number(told)
 }
 
 #[test]

@@ -1,32 +1,25 @@
 //! What follows the image: a role, a budget and a number of term places.
-use codes::bytes::read_code;
 
 /// A role, a budget and a number of term places.
 #[derive(Clone, Copy)]
 pub(crate) struct Order {
     pub role: u64,
     pub budget: u64,
-    pub places: usize,
-    /// One advance by the whole budget, and not one for each step.
-    pub at_once: bool,
+    pub places: u16,
 }
 
 /// The image, and what the 18 bytes after it ask for.
-pub(crate) fn split(bytes: &[u8], at_once: bool) -> Option<(&[u8], Order)> {
-    if bytes.len() < 18 {
-        return None;
-    }
-    let end = bytes.len() - 18;
-    let role = read_code(bytes, end)?;
-    let budget = read_code(bytes, end + 8)?;
-    let places = bytes[end + 16] as usize + 256 * bytes[end + 17] as usize;
+pub(crate) fn split(bytes: &[u8]) -> Option<(&[u8], Order)> {
+    let (image, order) = bytes.split_last_chunk::<18>()?;
+    let (role, rest) = order.split_first_chunk::<8>()?;
+    let (budget, rest) = rest.split_first_chunk::<8>()?;
+    let (places, _) = rest.split_first_chunk::<2>()?;
     Some((
-        &bytes[0..end],
+        image,
         Order {
-            role,
-            budget,
-            places,
-            at_once,
+            role: u64::from_le_bytes(*role),
+            budget: u64::from_le_bytes(*budget),
+            places: u16::from_le_bytes(*places),
         },
     ))
 }
