@@ -3,10 +3,7 @@ use station::judge::judge;
 use std::process::Abort;
 
 fn gives(rt: &impl Abort, input: &[u8], bytes: &[u8; 24]) {
-    let answer = judge(input);
-    for k in 0..24 {
-        assert_eq!(rt; answer[k], bytes[k]);
-    }
+    assert_eq!(rt; judge(input), *bytes);
 }
 
 #[test]

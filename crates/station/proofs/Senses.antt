@@ -1,8 +1,6 @@
 -- A verdict means what its two checks say of the term that the image stands for.
-use Rattle.std.proofs.Common.{◌≡◌, ℕ, zero, suc, ◌+◌, ◌-◌, List, map, length, take, drop, Ok, Err, Result, sym, refl, ap, ◌∙◌, subst, ap₂}
-use Rattle.std.specs.List.{range_with_len}
+use Rattle.std.proofs.Common.{◌≡◌, ℕ, ◌-◌, List, [], length, take, Ok, Err, Result, sym, refl, ap, ◌∙◌, subst, ap₂, arith}
 use Rattle.std.specs.Result.{MatchResult, IsErrAnd}
-use Rattle.std.proofs.lemmas.List.{take_at}
 use Rattle.std.proofs.lemmas.Result.{err_from_is_err_and}
 use Rattle.roles.specs.Meaning.{Meaning, Lawful}
 use Rattle.calculus.specs.Syntax.{Term}
@@ -10,25 +8,24 @@ use Rattle.calculus.specs.Subtyping.{System, sufficient, necessary}
 use Rattle.tables.specs.declared.entry.Entry.{Entry}
 use Rattle.tables.specs.Entries.{no_entry}
 use Rattle.trees.specs.Trees.{term_of}
-use Rattle.tables.specs.Asking.{told}
-use Rattle.jobs.specs.Asking.{Answer, left}
-use Rattle.jobs.specs.Image.{types_told, terms_told, types_in, terms_in, entry_at}
-use Rattle.jobs.specs.Reading.{read_asked, counts_told, types_left, terms_left, filled}
+use Rattle.walks.specs.Walk.{Walked, going, stopped, walk_of}
+use Rattle.tables.specs.declared.fault.FormFault.{FormFault}
+use Rattle.tables.specs.Asking.{Asked, told}
+use Rattle.tables.specs.Form.{form}
+use Rattle.jobs.specs.Asking.{Answer}
+use Rattle.jobs.specs.Image.{types_told, terms_told}
+use Rattle.jobs.specs.Reading.{read_asked, counts_told, types_left, terms_left}
 use Rattle.checks.specs.declared.fault.CheckFault.{CheckFault}
 use Rattle.checks.specs.declared.fault.CheckFault.TheVariants.{Form, Typing}
-use Rattle.checks.specs.Checking.{check_of}
+use Rattle.checks.specs.Checking.{walk_answer, after_form, check_of}
 use Rattle.checks.specs.Sense.{job_term, Says}
 use Rattle.checks.proofs.Meaning.{check_meant}
-use Rattle.checks.proofs.Repeating.{front_kept}
+use Rattle.checks.proofs.Repeating.{answers_again_lem}
 use Rattle.station.specs.declared.refusal.Refusal.{Refusal}
 use Rattle.station.specs.declared.refusal.Refusal.TheVariants.{Check}
 use Rattle.station.specs.Sense.{image_term, AnswerMeans, ImageMeans}
+use Rattle.station.proofs.Accepted.{types_front, terms_front, form_ok}
 use Rattle.station.specs.Verdicts.{of_check, checked_both, types_blank, terms_blank, after_reading, image_verdict}
-
-says_means : (m : Meaning) (α : System) (e : Term) (a : Result ℕ CheckFault) → Says m α e a → AnswerMeans m α e (of_check a)
-says_means m α e (Ok b) s = s
-says_means m α e (Err (Typing c)) s = s
-says_means m α e (Err (Form f)) s = tt
 
 -- an answer of a check whose fault is told as a refusal
 pub told_of_check : (a : Result ℕ CheckFault) (r : Result ℕ Refusal) → MatchResult a (λ x. r ≡ Ok x) (λ e. IsErrAnd r (λ y. y ≡ Check e)) → r ≡ of_check a
@@ -41,21 +38,33 @@ blank_entry e h =
     let P : ℕ → ℕ → ℕ → ℕ → Entry = λ a b c d. record { tag = a; first = b; second = c; third = d } in
     ap₂ (λ (a b : ℕ). P a b e.second e.third) h.0 h.1.0 ∙ ap₂ (P 0 0) h.1.1.0 h.1.1.1
 
-length_entries : (tags operands : List ℕ) (n k : ℕ) → length (map (entry_at tags operands) (range_with_len k n)) ≡ n
-length_entries tags operands zero k = refl
-length_entries tags operands (suc n) k = ap suc (length_entries tags operands n (k + 1))
+-- what a check says of a job that has the form of one
+says_means : (m : Meaning) (α : System) (e : Term) (a : Result ℕ CheckFault) → ((f : FormFault) → a ≡ Err (Form f) → ⊥) → Says m α e a → AnswerMeans m α e (of_check a)
+says_means m α e (Ok b) h s = s
+says_means m α e (Err (Typing c)) h s = s
+says_means m α e (Err (Form f)) h s = h f refl
 
-module _ (m : Meaning) (L : Lawful m) (t n : ℕ) (T M : List Entry) (e : Term) (is : job_term t n T M ≡ e) where
-  abbrev after : List Entry
-  after = (check_of m sufficient t n T M).table
+walk_typing : (m : Meaning) (w : Walked) (f : FormFault) → walk_answer m w ≡ Err (Form f) → ⊥
+walk_typing m (going T u x) f h = let z : ◌≡◌ {A = ℕ} 0 1 = cc in omega arith
+walk_typing m (stopped T c) f h = let z : ◌≡◌ {A = ℕ} 0 1 = cc in omega arith
 
-  kept : job_term t n after M ≡ e
-  kept = ap (λ (z : List Entry). term_of z (take n M) (n - 1)) (front_kept t (t + n) T after (check_meant m L sufficient t n T M).within) ∙ is
+module _ (m : Meaning) (L : Lawful m) (t n : ℕ) (T M : List Entry) (formed : form m t n T M ≡ Ok tt) where
+  -- a check of such a job tells no fault of form
+  typing : (α : System) (f : FormFault) → (check_of m α t n T M).answer ≡ Err (Form f) → ⊥
+  typing α f h =
+      let w : Walked = walk_of m α t (take n M) (n - 1) [] T t in
+      walk_typing m w f (sym (ap (λ (a : Asked FormFault). (after_form m T a w).answer) formed) ∙ h)
 
-  both_mean : (image : List ℕ) → image_term image ≡ e → ImageMeans m image (checked_both m t n T M)
+  means : (α : System) → AnswerMeans m α (job_term t n T M) (of_check (check_of m α t n T M).answer)
+  means α = says_means m α _ (check_of m α t n T M).answer (typing α) (check_meant m L α t n T M).sense
+
+  -- the second check answers what it would have answered first
+  both_mean : (image : List ℕ) → job_term t n T M ≡ image_term image → ImageMeans m image (checked_both m t n T M)
   both_mean image q = record {
-    sufficiency = subst (λ (z : Term). AnswerMeans m sufficient z (of_check (check_of m sufficient t n T M).answer)) (is ∙ sym q) (says_means m sufficient _ (check_of m sufficient t n T M).answer (check_meant m L sufficient t n T M).sense);
-    necessity = subst (λ (z : Term). AnswerMeans m necessary z (of_check (check_of m necessary t n after M).answer)) (kept ∙ sym q) (says_means m necessary _ (check_of m necessary t n after M).answer (check_meant m L necessary t n after M).sense);
+    sufficiency = subst (λ (z : Term). AnswerMeans m sufficient z (of_check (check_of m sufficient t n T M).answer)) q (means sufficient);
+    necessity =
+        subst (λ (z : Term). AnswerMeans m necessary z (of_check (check_of m necessary t n (check_of m sufficient t n T M).table M).answer)) q
+        (subst (λ (a : Result ℕ CheckFault). AnswerMeans m necessary (job_term t n T M) (of_check a)) (sym (answers_again_lem m L necessary sufficient t n T M)) (means necessary));
   }
 
 module _ (m : Meaning) (L : Lawful m) (image : List ℕ) where
@@ -65,31 +74,11 @@ module _ (m : Meaning) (L : Lawful m) (image : List ℕ) where
   abbrev n : ℕ
   n = terms_told image
 
-  types_front : (T : List Entry) → take t (filled (types_in image t n) T) ≡ types_in image t n
-  types_front T = take_at (types_in image t n) (drop (length (types_in image t n)) T) t (length_entries _ _ t 0)
-
-  terms_front : (T : List Entry) → take n (filled (terms_in image t n) T) ≡ terms_in image t n
-  terms_front T = take_at (terms_in image t n) (drop (length (terms_in image t n)) T) n (length_entries _ _ n 0)
-
   -- what is left by an accepted reading
-  module _ (T M : List Entry) (q : read_asked m image (length T) (length M) ≡ Ok tt) where
-    abbrev T₁ : List Entry
-    T₁ = types_left m image T M
-
-    abbrev M₁ : List Entry
-    M₁ = terms_left m image T M
-
-    types_are : T₁ ≡ filled (types_in image t n) T
-    types_are = ap (λ (a : Answer). left a (filled (types_in image t n) T) T) q
-
-    terms_are : M₁ ≡ filled (terms_in image t n) M
-    terms_are = ap (λ (a : Answer). left a (filled (terms_in image t n) M) M) q
-
-    term_is : job_term t n T₁ M₁ ≡ image_term image
-    term_is = ap₂ (λ (a b : List Entry). term_of a b (n - 1)) (ap (take t) types_are ∙ types_front T) (ap (take n) terms_are ∙ terms_front M)
-
-    read_means : ImageMeans m image (checked_both m t n T₁ M₁)
-    read_means = both_mean m L t n T₁ M₁ (image_term image) term_is image refl
+  read_means : (T M : List Entry) → read_asked m image (length T) (length M) ≡ Ok tt → ImageMeans m image (checked_both m t n (types_left m image T M) (terms_left m image T M))
+  read_means T M q =
+      both_mean m L t n (types_left m image T M) (terms_left m image T M) (form_ok m image T M q) image
+      (ap₂ (λ (a b : List Entry). term_of a b (n - 1)) (types_front m image T M q) (terms_front m image T M q))
 
   by_reading : (a : Answer) → read_asked m image (length types_blank) (length terms_blank) ≡ a → ImageMeans m image (after_reading m image (told a (counts_told image)))
   by_reading (Ok tt) q = read_means types_blank terms_blank q

@@ -22,11 +22,11 @@ term_in image t n = term_of (types_in image t n) (terms_in image t n) (n - 1)
 abbrev pub image_term : List ℕ → Term
 image_term image = term_in image (types_told image) (terms_told image)
 
--- An accepted term has a least type by the rules, and the answer is its bound; the rules give a term refused by its typing no type.
+-- An accepted term has a least type by the rules, and the answer is its bound; the rules give a term refused by its typing no type. A check finds no fault of form in a job that was read.
 abbrev pub AnswerMeans : Meaning → System → Term → Result ℕ Refusal → Type 0
 AnswerMeans m α e (Ok b) = (t : Ty) × Least m α e t × (b ≡ bound_of m t)
 AnswerMeans m α e (Err (Check (Typing c))) = Untyped m α e
-AnswerMeans m α e (Err (Check (Form f))) = Unit {0}
+AnswerMeans m α e (Err (Check (Form f))) = ⊥
 AnswerMeans m α e (Err (Image f)) = Unit {0}
 AnswerMeans m α e (Err (Block f)) = Unit {0}
 
