@@ -9,31 +9,31 @@ use Rattle.machine.proofs.Growing.{lay}
 use Rattle.machine.proofs.Erasing.{or_neither}
 use Rattle.machine.proofs.Stable.{Plain, Stable, MetBy, step_stable}
 
+-- inside a head is one binder deeper, or none
+pub by_inside : (h : One) (P : (ℕ → ℕ) → Type 0) → P (λ d. suc d) → P (λ d. d) → P (λ d. inside h d)
+by_inside (abstracts c₁ c₂) P p q = p
+by_inside fixes P p q = q
+by_inside (guards a) P p q = q
+by_inside checks P p q = q
+by_inside units P p q = q
+by_inside (raises a) P p q = q
+by_inside (restricts a) P p q = q
+
+pub by_beside : (h : Two) (P : (ℕ → ℕ) → Type 0) → P (λ d. suc d) → P (λ d. d) → P (λ d. beside h d)
+by_beside applies P p q = q
+by_beside lets P p q = p
+
 inside_up : (h : One) (d e : ℕ) → d ≤ e → inside h d ≤ inside h e
-inside_up (abstracts c₁ c₂) d e k = omega arith
-inside_up fixes d e k = k
-inside_up (guards a) d e k = k
-inside_up checks d e k = k
-inside_up units d e k = k
-inside_up (raises a) d e k = k
-inside_up (restricts a) d e k = k
+inside_up h d e k = by_inside h (λ f. f d ≤ f e) (omega arith) k
 
 beside_up : (h : Two) (d e : ℕ) → d ≤ e → beside h d ≤ beside h e
-beside_up applies d e k = k
-beside_up lets d e k = omega arith
+beside_up h d e k = by_beside h (λ f. f d ≤ f e) (omega arith) k
 
 pub inside_suc : (h : One) (d : ℕ) → inside h (suc d) ≡ suc (inside h d)
-inside_suc (abstracts c₁ c₂) d = refl
-inside_suc fixes d = refl
-inside_suc (guards a) d = refl
-inside_suc checks d = refl
-inside_suc units d = refl
-inside_suc (raises a) d = refl
-inside_suc (restricts a) d = refl
+inside_suc h d = by_inside h (λ f. f (suc d) ≡ suc (f d)) refl refl
 
 pub beside_suc : (h : Two) (d : ℕ) → beside h (suc d) ≡ suc (beside h d)
-beside_suc applies d = refl
-beside_suc lets d = refl
+beside_suc h d = by_beside h (λ f. f (suc d) ≡ suc (f d)) refl refl
 
 closed_up : (d e : ℕ) (t : Tree) → d ≤ e → closed d t ≡ true → closed e t ≡ true
 closed_up d e stray k h = h

@@ -3,16 +3,9 @@ use Rattle.std.specs.Prelude.{◌≡◌, ℕ, ◌+◌, ◌≤◌, true, List, No
 use Rattle.roles.specs.Meaning.{Meaning}
 use Rattle.tables.specs.declared.entry.Entry.{Entry}
 use Rattle.runs.specs.declared.run.Run.{Run}
-use Rattle.runs.specs.Run.{refusal, gone, run_after, terms_after}
+use Rattle.runs.specs.Run.{refusal}
+pub use Rattle.runs.specs.Parts.{left_run, left_terms}
 use Rattle.runs.specs.Usable.{usable}
-
--- The run that an advance leaves.
-abbrev pub left_run : Meaning → Run → List Entry → ℕ → Run
-left_run m x es k = run_after (refusal m x es k) x (gone m x es k)
-
--- The terms that it leaves.
-abbrev pub left_terms : Meaning → Run → List Entry → ℕ → List Entry
-left_terms m x es k = terms_after (refusal m x es k) es (gone m x es k)
 
 -- The runs are at the same place: steps, places used and current entry agree.
 pub record SamePlace (x y : Run) : Type 0 where

@@ -198,6 +198,13 @@ module _ (P : Putting) (d i : ℕ) (C : Copiable P.used.terms.now d i) where
   pub operands_two : (names e.tag ≡ 0 → ⊥) → (names e.tag ≡ 1 → ⊥) → names e.tag ≡ 2
   operands_two y z = arity_e ∙ arity_two (head e) (λ q. y (arity_e ∙ q)) (λ q. z (arity_e ∙ q))
 
+  -- by a count of the operands
+  pub some_named : (n : ℕ) → n ≡ names e.tag → (n ≡ 0 → ⊥) → names e.tag ≡ 0 → ⊥
+  some_named n q z h = z (q ∙ h)
+
+  pub two_named : (n : ℕ) → n ≡ names e.tag → (n ≡ 0 → ⊥) → (n ≡ 1 → ⊥) → names e.tag ≡ 2
+  two_named n q y z = operands_two (λ h. y (q ∙ h)) (λ h. z (q ∙ h))
+
   pub second_lower : names e.tag ≡ 2 → e.second < i
   second_lower z = lower_second (head e) i e (sym arity_e ∙ z) (lower_at us i e G C.here refl)
 

@@ -1,7 +1,7 @@
 -- An advance at the table runs the calculus. Assumes nothing.
-use Rattle.std.proofs.Common.{◌≡◌, ℕ, zero, suc, ◌+◌, ◌<◌, ◌≤◌, true, leb, List, [], length, get_or, take, drop, Err, Result, sym, refl, ap, ◌∙◌, subst, subst₂, ⊎_elim, arith, length-append, length-take-le, take-take, take_at}
+use Rattle.std.proofs.Common.{◌≡◌, ℕ, ◌+◌, ◌<◌, ◌≤◌, true, leb, List, [], length, get_or, take, drop, Err, Result, sym, refl, ap, ◌∙◌, subst, subst₂, arith, length-append, length-take-le, take-take, take_at}
 use Rattle.std.proofs.lemmas.List.{take-append-drop}
-use Rattle.std.proofs.lemmas.Bool.{leb-false, le-leb, cases_eq, and_from}
+use Rattle.std.proofs.lemmas.Bool.{leb-false, le-leb, and_from}
 use Rattle.roles.specs.Meaning.{Meaning}
 use Rattle.calculus.specs.Syntax.{Term, variable}
 use Rattle.calculus.specs.Steps.{Value, CanStep, IsRoleFault, IsShapeFault, Steps}
@@ -29,7 +29,7 @@ use Rattle.runs.specs.declared.fault.RunFault.{RunFault}
 use Rattle.runs.specs.declared.run.Progress.{Progress}
 use Rattle.runs.specs.Meant.{Halts, Ran, Meant}
 use Rattle.runs.specs.Went.{Went}
-use Rattle.runs.proofs.Tags.{by_tag, tree_at}
+use Rattle.runs.proofs.Tags.{by_tag, tree_at, below_all}
 
 -- the term of a numbered tree is the term of its entry
 term_tagged : (e : Entry) → Tagged e → term_tag e.tag ≡ true
@@ -57,23 +57,20 @@ module _ (types us : List Entry) (G : Ground us) where
       term_same (type_of types) i (λ j. get_or (ladder (term_step types us) i) j (variable 0)) (term_of types us) (λ j h. get_or_ladder (term_step types us) i j (variable 0) h) (at us i)
       (term_tagged (at us i) (G.tagged i l)) (below_by i (at us i) (G.tagged i l) (G.lowered i l))
 
-  terms_below : (n : ℕ) → n ≤ length us → (i : ℕ) → i < n → erase (type_of types) (tree us i) ≡ term_of types us i
-  terms_below zero l i h = absurd (omega arith)
-  terms_below (suc n) l i h =
-      let ih = terms_below n (omega arith) in
-      let q : n < length us = omega arith in
+  terms_below : (i : ℕ) → i < length us → erase (type_of types) (tree us i) ≡ term_of types us i
+  terms_below =
+      below_all (λ i. erase (type_of types) (tree us i) ≡ term_of types us i) (length us)
+      (λ n q b.
       let e = at us n in
       let t = G.tagged n q in
-      let here : erase (type_of types) (tree us n) ≡ term_of types us n =
-      ap (erase (type_of types)) (tree_at us n e G q refl) ∙ (erase_rooted n e t
-      ∙ (term_same (type_of types) n (λ j. erase (type_of types) (tree us j)) (term_of types us) ih e (term_tagged e t) (below_by n e t (G.lowered n q)) ∙ sym (term_unfolds n q))) in
-      ⊎_elim (λ p. subst (λ (j : ℕ). erase (type_of types) (tree us j) ≡ term_of types us j) (sym p) here) (λ p. ih i (omega arith)) (cases_eq i n)
+      ap (erase (type_of types)) (tree_at us n e G q refl)
+      ∙ (erase_rooted n e t ∙ (term_same (type_of types) n (λ j. erase (type_of types) (tree us j)) (term_of types us) b e (term_tagged e t) (below_by n e t (G.lowered n q)) ∙ sym (term_unfolds n q))))
 
 pub term_at : (types es : List Entry) (u c : ℕ) → Ground (take u es) → u ≤ length es → c < u → term (type_of types) (state es u c) ≡ term_of types es c
 term_at types es u c G l h =
     let n = length-take-le u es l in
     let k : c < length (take u es) = omega arith in
-    terms_below types (take u es) G (length (take u es)) (omega arith) c k
+    terms_below types (take u es) G c k
     ∙ (sym ((keeps types (take u es) [] (drop u es)).terms_kept c k) ∙ ap (λ (z : List Entry). term_of types z c) (take-append-drop u es))
 
 module _ (m : Meaning) (r k n : ℕ) (fs : List Entry) (u c : ℕ) (G : Ground (take u fs)) (low : u ≤ length fs) (present : c < u) (sound : Sound (state fs u c)) where

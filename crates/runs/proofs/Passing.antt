@@ -1,7 +1,7 @@
 -- Entries that a step appends pass as those before them did. Assumes nothing.
 use Rattle.std.proofs.Common.{◌≡◌, ℕ, zero, suc, ◌+◌, ◌<◌, ◌≤◌, Bool, true, false, cond, ◌&&◌, ◌||◌, eqb, ltb, ◌⊎◌, List, [], ◌∷◌, ◌++◌, length, get_or, take, Some, sym, refl, ap, ◌∙◌, subst, inl, inr, ⊎_elim, true≢false, append_assoc, arith, length-append}
 use Rattle.std.proofs.lemmas.List.{length_push}
-use Rattle.std.proofs.lemmas.Bool.{and_parts, and_from, lt-ltb, cases_eq}
+use Rattle.std.proofs.lemmas.Bool.{and_parts, and_from, lt-ltb}
 use Rattle.roles.specs.Meaning.{Meaning}
 use Rattle.tables.specs.declared.entry.Entry.{Entry}
 use Rattle.tables.specs.Entries.{term_tag, role_fits}
@@ -16,7 +16,7 @@ use Rattle.machine.proofs.Walking.{some_of, none_of, cond_some, after_some}
 use Rattle.machine.proofs.Agreeing.{turns_close_lem}
 use Rattle.runs.specs.Reach.{no_entry, Tagged, Ground}
 use Rattle.runs.specs.Usable.{plain_operands, passes, all_pass}
-use Rattle.runs.proofs.Tags.{by_tag, tree_at}
+use Rattle.runs.proofs.Tags.{by_tag, tree_at, below_all}
 use Rattle.runs.proofs.Grounding.{LowPlan, low_up, snoc_all, held_low}
 use Rattle.runs.proofs.Using.{Passed, ground_by, open_past}
 
@@ -93,15 +93,11 @@ module _ (role : ℕ → Bool) where
         (λ f s c l h b. tt) (λ f s c l h b. tt) (λ f s c l h b. (tt, b f l)) (λ f s c l h b. (b f l.0, b s l.1)) (λ f s c l h b. (tt, b f l)) (λ f s c l h b. (h, b f l))
         (λ f s c l h b. (tt, b f l)) (λ f s c l h b. (tt, b f l)) (λ f s c l h b. (b f l.0, b s l.1)) (λ f s c l h b. (h, b f l)) (λ f s c l h b. (h, b f l)) e g
 
-    coded_below : (n : ℕ) → n ≤ length us → (k : ℕ) → k < n → Coded (tree us k)
-    coded_below zero l k h = absurd (omega arith)
-    coded_below (suc n) l k h =
-        let ih = coded_below n (omega arith) in
-        let q : n < length us = omega arith in
+    coded_below : (k : ℕ) → k < length us → Coded (tree us k)
+    coded_below =
         let G = ground us P in
-        ⊎_elim (λ e. subst (λ (j : ℕ). Coded (tree us j)) (sym e)
-        (subst Coded (sym (tree_at us n (get_or us n no_entry) G q refl)) (lower_coded n (get_or us n no_entry) (G.tagged n q) (G.lowered n q) (code_of n q) ih)))
-        (λ ne. ih k (omega arith)) (cases_eq k n)
+        below_all (λ k. Coded (tree us k)) (length us)
+        (λ i q b. subst Coded (sym (tree_at us i (get_or us i no_entry) G q refl)) (lower_coded i (get_or us i no_entry) (G.tagged i q) (G.lowered i q) (code_of i q) b))
 
   -- new entries pass
   new_one_passes : (n j : ℕ) (h : One) → j < n → CodedOne h → passes role (entry_one h j) n ≡ true
@@ -171,7 +167,7 @@ module _ (role : ℕ → Bool) where
         let c = cond_some (room places s w.entries) (moved s w.entries w.place) s' k in
         let held : HeldPlan (trees s.used) p = subst (MetBy (HeldPlan (trees s.used))) e (step_held (trees s.used) m r t (trees_held s.used s.current (closed_whole 0 t F.1))) in
         let low : LowPlan (length s.used) p = subst (λ (n : ℕ). LowPlan n p) (length_trees s.used) (held_low (trees s.used) p held) in
-        let coded : CodedPlan p = subst (MetBy CodedPlan) e (step_stable Coded Coded CodedPlan stable m r t (coded_below s.used F.0 (length s.used) (omega arith) s.current (present s F))) in
+        let coded : CodedPlan p = subst (MetBy CodedPlan) e (step_stable Coded Coded CodedPlan stable m r t (coded_below s.used F.0 s.current (present s F))) in
         subst Fine c.1 ((write_passes s.used p F.0 low coded).0, turns_close_lem m r s w.entries w.place F.1 (ap (turned (length s.used)) e))
     once_by s s' (refused i a x) e F k = absurd (none_of k)
     once_by s s' (misfit i) e F k = absurd (none_of k)

@@ -10,31 +10,31 @@ use Rattle.machine.proofs.Closing.{closed_down}
 use Rattle.runs.specs.Reach.{no_entry, outside, outside_two, reach_of, Tagged, Ground, lower, step_of}
 use Rattle.runs.proofs.Tags.{by_tag, tree_at, lower_at, tagged_at}
 
+-- inside a head and outside it again: one binder, or none
+pub by_outside : (h : One) (P : (ℕ → ℕ) → (ℕ → ℕ) → Type 0) → P (λ d. suc d) (λ r. r - 1) → P (λ d. d) (λ r. r) → P (λ d. inside h d) (λ r. outside h r)
+by_outside (abstracts c₁ c₂) P p q = p
+by_outside fixes P p q = q
+by_outside (guards a) P p q = q
+by_outside checks P p q = q
+by_outside units P p q = q
+by_outside (raises a) P p q = q
+by_outside (restricts a) P p q = q
+
+pub by_outside_two : (h : Two) (P : (ℕ → ℕ) → (ℕ → ℕ) → Type 0) → P (λ d. suc d) (λ r. r - 1) → P (λ d. d) (λ r. r) → P (λ d. beside h d) (λ r. outside_two h r)
+by_outside_two applies P p q = q
+by_outside_two lets P p q = p
+
 outside_low : (h : One) (r d : ℕ) → r ≤ inside h d → outside h r ≤ d
-outside_low (abstracts c₁ c₂) r d k = omega arith
-outside_low fixes r d k = k
-outside_low (guards a) r d k = k
-outside_low checks r d k = k
-outside_low units r d k = k
-outside_low (raises a) r d k = k
-outside_low (restricts a) r d k = k
+outside_low h r d = by_outside h (λ f g. r ≤ f d → g r ≤ d) (λ k. omega arith) (λ k. k)
 
 outside_high : (h : One) (r d : ℕ) → inside h d < r → d < outside h r
-outside_high (abstracts c₁ c₂) r d k = omega arith
-outside_high fixes r d k = k
-outside_high (guards a) r d k = k
-outside_high checks r d k = k
-outside_high units r d k = k
-outside_high (raises a) r d k = k
-outside_high (restricts a) r d k = k
+outside_high h r d = by_outside h (λ f g. f d < r → d < g r) (λ k. omega arith) (λ k. k)
 
 outside_two_low : (h : Two) (r d : ℕ) → r ≤ beside h d → outside_two h r ≤ d
-outside_two_low applies r d k = k
-outside_two_low lets r d k = omega arith
+outside_two_low h r d = by_outside_two h (λ f g. r ≤ f d → g r ≤ d) (λ k. omega arith) (λ k. k)
 
 outside_two_high : (h : Two) (r d : ℕ) → beside h d < r → d < outside_two h r
-outside_two_high applies r d k = k
-outside_two_high lets r d k = omega arith
+outside_two_high h r d = by_outside_two h (λ f g. f d < r → d < g r) (λ k. omega arith) (λ k. k)
 
 or_either : (a b : Bool) → (a || b) ≡ true → (a ≡ true) ⊎ (b ≡ true)
 or_either true b h = inl refl

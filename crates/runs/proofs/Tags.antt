@@ -1,6 +1,6 @@
 -- Term entries by their tags. Assumes nothing.
-use Rattle.std.proofs.Common.{◌≡◌, ℕ, ◌<◌, leb, List, length, get_or, subst}
-use Rattle.std.proofs.lemmas.Bool.{and_from, le-leb}
+use Rattle.std.proofs.Common.{◌≡◌, ℕ, zero, suc, ◌<◌, leb, List, length, get_or, sym, subst, ⊎_elim, arith}
+use Rattle.std.proofs.lemmas.Bool.{and_from, le-leb, cases_eq}
 use Rattle.tables.specs.declared.entry.Entry.{Entry}
 pub use Rattle.trees.proofs.ByTag.{made, At, retag}
 use Rattle.trees.proofs.ByTag.{by_term_tag}
@@ -28,3 +28,10 @@ tagged_at us i e g l p = subst Tagged p (g.tagged i l)
 
 pub small_at : (us : List Entry) (i : ℕ) (e : Entry) → Ground us → i < length us → get_or us i no_entry ≡ e → e.tag ≡ 17 → e.first < 1024
 small_at us i e g l p = let F : Entry → Type 0 = λ x. x.tag ≡ 17 → x.first < 1024 in subst F p (g.small i l)
+
+-- what holds at each number if it holds at all below it
+pub below_all : (P : ℕ → Type 0) (n : ℕ) → ((i : ℕ) → i < n → ((k : ℕ) → k < i → P k) → P i) → (k : ℕ) → k < n → P k
+below_all P zero f k h = absurd (omega arith)
+below_all P (suc n) f k h =
+    let ih = below_all P n (λ i l b. f i (omega arith) b) in
+    ⊎_elim (λ e. subst P (sym e) (f n (omega arith) ih)) (λ ne. ih k (omega arith)) (cases_eq k n)

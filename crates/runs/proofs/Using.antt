@@ -4,14 +4,14 @@ use Rattle.std.proofs.lemmas.List.{get_or_past}
 use Rattle.std.proofs.lemmas.Bool.{and_parts, and_from, ltb-true, lt-ltb, leb-true, le-leb, lt-leb, eqb-true, cases_Bool, cases_eq}
 use Rattle.tables.specs.declared.entry.Entry.{Entry}
 use Rattle.tables.specs.Entries.{term_tag, role_fits}
-use Rattle.machine.specs.Labelled.{constants, variables, One, abstracts, fixes, guards, checks, units, raises, restricts, Two, applies, lets, head, Tree, stray, leaf, one, two, trees, tree, inside, beside, closed}
+use Rattle.machine.specs.Labelled.{constants, variables, One, Two, head, Tree, stray, leaf, one, two, trees, tree, inside, beside, closed}
 use Rattle.machine.specs.Theorems.{rooted, Lower}
 use Rattle.machine.proofs.Growing.{length_trees, Whole}
 use Rattle.runs.specs.Reach.{no_entry, outside, outside_two, reach_of, Tagged, Ground, Known}
 use Rattle.runs.specs.Usable.{plain_operands, passes, all_pass, usable}
 use Rattle.runs.specs.Table.{Live}
-use Rattle.runs.proofs.Tags.{by_tag, tree_at}
-use Rattle.runs.proofs.Reaching.{closed_reach}
+use Rattle.runs.proofs.Tags.{by_tag, tree_at, below_all}
+use Rattle.runs.proofs.Reaching.{closed_reach, by_outside, by_outside_two}
 
 tagged : (e : Entry) → term_tag e.tag ≡ true → Tagged e
 tagged e h = let b = and_parts (leb 16 e.tag) (leb e.tag 26) h in (leb-true 16 e.tag b.0, leb-true e.tag 26 b.1)
@@ -95,17 +95,10 @@ module _ (role : ℕ → Bool) where
 
 -- a whole tree whose reach is at most d is closed below d binders
 outside_back : (h : One) (r d : ℕ) → outside h r ≤ d → r ≤ inside h d
-outside_back (abstracts c₁ c₂) r d k = omega arith
-outside_back fixes r d k = k
-outside_back (guards a) r d k = k
-outside_back checks r d k = k
-outside_back units r d k = k
-outside_back (raises a) r d k = k
-outside_back (restricts a) r d k = k
+outside_back h r d = by_outside h (λ f g. g r ≤ d → r ≤ f d) (λ k. omega arith) (λ k. k)
 
 outside_two_back : (h : Two) (r d : ℕ) → outside_two h r ≤ d → r ≤ beside h d
-outside_two_back applies r d k = k
-outside_two_back lets r d k = omega arith
+outside_two_back h r d = by_outside_two h (λ f g. g r ≤ d → r ≤ f d) (λ k. omega arith) (λ k. k)
 
 reach_closed : (d : ℕ) (t : Tree) → Whole t → reach_of t ≤ d → closed d t ≡ true
 reach_closed d stray w h = absurd w
@@ -125,14 +118,10 @@ module _ (us : List Entry) (G : Ground us) where
       (λ f s t l. below f l) (λ f s t l. below f l) (λ f s t l. below f l) (λ f s t l. below f l) (λ f s t l. (below f l.0, below s l.1))
       (λ f s t l. below f l) (λ f s t l. below f l) e t l
 
-  whole_below : (n : ℕ) → n ≤ length us → (k : ℕ) → k < n → Whole (tree us k)
-  whole_below zero l k h = absurd (omega arith)
-  whole_below (suc n) l k h =
-      let ih = whole_below n (omega arith) in
-      let q : n < length us = omega arith in
-      ⊎_elim (λ e. subst (λ (j : ℕ). Whole (tree us j)) (sym e)
-      (subst Whole (sym (tree_at us n (get_or us n no_entry) G q refl)) (whole_rooted n (get_or us n no_entry) (G.tagged n q) (G.lowered n q) ih)))
-      (λ ne. ih k (omega arith)) (cases_eq k n)
+  whole_below : (k : ℕ) → k < length us → Whole (tree us k)
+  whole_below =
+      below_all (λ k. Whole (tree us k)) (length us)
+      (λ i q b. subst Whole (sym (tree_at us i (get_or us i no_entry) G q refl)) (whole_rooted i (get_or us i no_entry) (G.tagged i q) (G.lowered i q) b))
 
   pub closed_is : (c : ℕ) → c < length us → (r : ℕ) → r ≡ reach_of (tree us c) → closed 0 (tree us c) ≡ eqb r 0
   closed_is c l r e = ⊎_elim (λ h. h ∙ sym (yes (closed_reach 0 (tree us c) h))) (λ h. h ∙ sym (no h)) (cases_Bool (closed 0 (tree us c)))
@@ -141,7 +130,7 @@ module _ (us : List Entry) (G : Ground us) where
       yes h = let z : r ≡ 0 = omega arith in ap (λ (x : ℕ). eqb x 0) z
 
       other : eqb r 0 ≡ true → closed 0 (tree us c) ≡ true
-      other q = let z = eqb-true r 0 q in reach_closed 0 (tree us c) (whole_below (length us) (omega arith) c l) (omega arith)
+      other q = let z = eqb-true r 0 q in reach_closed 0 (tree us c) (whole_below c l) (omega arith)
 
       no : closed 0 (tree us c) ≡ false → eqb r 0 ≡ false
       no h = ⊎_elim (λ q. absurd (true≢false (sym (other q) ∙ h))) (λ q. q) (cases_Bool (eqb r 0))

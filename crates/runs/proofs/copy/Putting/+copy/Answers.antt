@@ -1,8 +1,7 @@
-use Rattle.std.proofs.Common.{◌≡◌, get_or, sym, ◌∙◌, arith}
+use Rattle.std.proofs.Common.{get_or, sym, ◌∙◌, arith}
 use Rattle.tables.specs.declared.entry.Entry.{Entry}
 use Rattle.runs.specs.Reach.{no_entry}
-use Rattle.runs.specs.Copy.{names}
-use Rattle.runs.proofs.Copying.{within_le, first_lower, operands_two, second_lower, first_copiable, second_copiable}
+use Rattle.runs.proofs.Copying.{within_le, first_lower, some_named, two_named, second_lower, first_copiable, second_copiable}
 use Rattle.runs.proofs.Tabling.{shares, puts, first_room, one_done, second_room, two_done}
 use Rattle.runs.proofs.copy.Putting.+copy.Goals as goal
 
@@ -16,7 +15,7 @@ returns-then-n-eq0 t c =
 pub copy-a-requires : goal.copy-a-requires
 copy-a-requires t c =
     let e : Entry = get_or c.args.self.used.terms.now c.args.at no_entry in
-    let z : names e.tag ≡ 0 → ⊥ = λ q. c.if-n-eq0.false (c.named_terms-n.ensures ∙ q) in
+    let z = some_named c.args.self c.args.depth c.args.at c.requires.form c.named_terms-n.result c.named_terms-n.ensures c.if-n-eq0.false in
     let l = first_lower c.args.self c.args.depth c.args.at c.requires.form z in
     let m = first_copiable c.args.self c.args.depth c.args.at c.requires.form c.depth_within.result c.depth_within.ensures z in
     let r = first_room c.args.self c.args.depth c.args.at c.requires.form c.args.free.now c.args.filled c.requires.room c.depth_within.result c.if-self-at.false z c.depth_within.ensures in
@@ -26,7 +25,7 @@ copy-a-requires t c =
 pub append-requires-clause-room : goal.append-requires-clause-room
 append-requires-clause-room t c =
     let e : Entry = get_or c.args.self.used.terms.now c.args.at no_entry in
-    let z : names e.tag ≡ 0 → ⊥ = λ q. c.if-n-eq0.false (c.named_terms-n.ensures ∙ q) in
+    let z = some_named c.args.self c.args.depth c.args.at c.requires.form c.named_terms-n.result c.named_terms-n.ensures c.if-n-eq0.false in
     let r = first_room c.args.self c.args.depth c.args.at c.requires.form c.args.free.now c.args.filled c.requires.room c.depth_within.result c.if-self-at.false z c.depth_within.ensures in
     omega (arith, c.copy-a.ensures.filled, c.copy-a.auto.free)
 
@@ -39,8 +38,7 @@ returns-then-n-eq1 t c =
 pub copy-b-requires : goal.copy-b-requires
 copy-b-requires t c =
     let e : Entry = get_or c.args.self.used.terms.now c.args.at no_entry in
-    let o : names e.tag ≡ 2 = operands_two c.args.self c.args.depth c.args.at c.requires.form
-    (λ q. c.if-n-eq0.false (c.named_terms-n.ensures ∙ q)) (λ q. c.if-n-eq1.false (c.named_terms-n.ensures ∙ q)) in
+    let o = two_named c.args.self c.args.depth c.args.at c.requires.form c.named_terms-n.result c.named_terms-n.ensures c.if-n-eq0.false c.if-n-eq1.false in
     let l = second_lower c.args.self c.args.depth c.args.at c.requires.form o in
     let m = second_copiable c.args.self c.args.depth c.args.at c.requires.form c.depth_within-2.result c.depth_within-2.ensures o in
     let r = second_room c.args.self c.args.depth c.args.at c.requires.form c.args.free.now c.args.filled c.requires.room
@@ -51,16 +49,14 @@ copy-b-requires t c =
 
 pub append-requires-2-clause-room : goal.append-requires-2-clause-room
 append-requires-2-clause-room t c =
-    let o = operands_two c.args.self c.args.depth c.args.at c.requires.form
-    (λ q. c.if-n-eq0.false (c.named_terms-n.ensures ∙ q)) (λ q. c.if-n-eq1.false (c.named_terms-n.ensures ∙ q)) in
+    let o = two_named c.args.self c.args.depth c.args.at c.requires.form c.named_terms-n.result c.named_terms-n.ensures c.if-n-eq0.false c.if-n-eq1.false in
     let r = second_room c.args.self c.args.depth c.args.at c.requires.form c.args.free.now c.args.filled c.requires.room
     c.depth_within.result c.copy-a.new.free c.copy-a.result c.if-self-at.false c.depth_within.ensures c.copy-a.ensures c.depth_within-2.result o c.depth_within-2.ensures c.copy-a.auto.free in
     omega (arith, c.copy-b.ensures.filled, c.copy-b.auto.free)
 
 pub returns : goal.returns
 returns t c =
-    let o = operands_two c.args.self c.args.depth c.args.at c.requires.form
-    (λ q. c.if-n-eq0.false (c.named_terms-n.ensures ∙ q)) (λ q. c.if-n-eq1.false (c.named_terms-n.ensures ∙ q)) in
+    let o = two_named c.args.self c.args.depth c.args.at c.requires.form c.named_terms-n.result c.named_terms-n.ensures c.if-n-eq0.false c.if-n-eq1.false in
     two_done c.args.self c.args.depth c.args.at c.requires.form c.args.free.now c.args.filled c.requires.room
     c.depth_within.result c.copy-a.new.free c.copy-a.result c.if-self-at.false c.depth_within.ensures c.copy-a.ensures c.depth_within-2.result o c.depth_within-2.ensures
     c.copy-b.new.free c.append-2.new.free c.copy-b.result c.append-2.result c.renew-2.result c.copy-b.ensures c.renew-2.ensures c.append-2.ensures
