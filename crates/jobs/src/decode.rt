@@ -14,7 +14,8 @@ pub(crate) fn bytes_at<const N: usize>(bytes: &[u8], p: usize) -> [u8; N]
 
 // Entry `k` of a table, from its tags and its operands.
 fn entry(tags: &[u8], operands: &[u8], k: usize) -> Entry
-    requires { (k < length tags.now) × (16 * k + 16 ≤ length operands.now) }
+    requires tag { k < length tags.now }
+    requires operands { 16 * k + 16 ≤ length operands.now }
     ensures { result ≡ entry_at tags.now operands.now k }
 {
     let p = 16 * k;
@@ -28,7 +29,8 @@ fn entry(tags: &[u8], operands: &[u8], k: usize) -> Entry
 
 // Fills a table.
 fn fill(table: &mut [Entry], tags: &[u8], operands: &[u8])
-    requires { (length table.old ≤ length tags.now) × (16 * length table.old ≤ length operands.now) }
+    requires tags { length table.old ≤ length tags.now }
+    requires operands { 16 * length table.old ≤ length operands.now }
     ensures { table.new ≡ entries tags.now operands.now (length table.old) }
 {
     for (k, place) in table.iter_mut().enumerate() {
@@ -38,7 +40,9 @@ fn fill(table: &mut [Entry], tags: &[u8], operands: &[u8])
 
 /// Fills the first places of two tables with the entries of an image of the right length.
 pub(crate) fn decode(image: &[u8], counts: Counts, types: &mut [Entry], terms: &mut [Entry])
-    requires { (length image.now ≡ image_length counts.types counts.terms) × ((counts.types ≤ length types.old) × (counts.terms ≤ length terms.old)) }
+    requires long { length image.now ≡ image_length counts.types counts.terms }
+    requires types { counts.types ≤ length types.old }
+    requires terms { counts.terms ≤ length terms.old }
     ensures types { types.new ≡ types_in image.now counts.types counts.terms ++ drop counts.types types.old }
     ensures terms { terms.new ≡ terms_in image.now counts.types counts.terms ++ drop counts.terms terms.old }
 {

@@ -46,7 +46,9 @@ fn put_table(out: &mut [u8], p: usize, table: &[Entry])
 
 /// Writes the image of two tables into an output of its length.
 pub(crate) fn encode(types: &[Entry], terms: &[Entry], out: &mut [u8])
-    requires { (length types.now ≤ 512) × ((length terms.now ≤ 1024) × (length out.old ≡ image_length (length types.now) (length terms.now))) }
+    requires types_few { length types.now ≤ 512 }
+    requires terms_few { length terms.now ≤ 1024 }
+    requires long { length out.old ≡ image_length (length types.now) (length terms.now) }
     ensures { out.new ≡ image types.now terms.now }
 {
     let t = types.len();

@@ -12,7 +12,10 @@ use crate::terms::Terms;
 
 // Hands the depth of term `i` down to the term of that number that it names, if it names so many.
 fn hand_down(depths: &mut [u16], e: Entry, number: u8, i: usize, depth: u16)
-    requires { (length depths.old ≡ 1024) × ((i < 1024) × ((Lower e i) × (depth ≤ 1024))) }
+    requires long { length depths.old ≡ 1024 }
+    requires inside { i < 1024 }
+    requires lower { Lower e i }
+    requires low { depth ≤ 1024 }
     ensures { depths.new ≡ hand_down e number depth depths.old }
 {
     if number < named_terms(e.tag) {

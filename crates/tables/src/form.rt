@@ -43,7 +43,8 @@ pub fn room(counts: Counts, types: usize, terms: usize) -> Result<(), FormFault>
 
 // The questions of tag, operands and role to each term, lowest first, in a job of `t` types.
 fn ask_terms<S: Scheme>(scheme: &S, t: u32, terms: &[Entry]) -> Result<(), FormFault>
-    requires { (t ≤ 512) × (length terms.now ≤ 1024) }
+    requires types_few { t ≤ 512 }
+    requires terms_few { length terms.now ≤ 1024 }
     ensures { result ≡ of_each (ask_term (S.meaning scheme.now).role t terms.now) (length terms.now) 0 }
 {
     for (i, e) in terms.iter().enumerate() {
@@ -55,7 +56,9 @@ fn ask_terms<S: Scheme>(scheme: &S, t: u32, terms: &[Entry]) -> Result<(), FormF
 
 // The questions to the entries of a job that is all of two tables.
 fn ask_entries<S: Scheme>(scheme: &S, types: &[Entry], terms: &[Entry]) -> Result<(), FormFault>
-    requires { (length types.now ≤ 512) × ((1 ≤ length terms.now) × (length terms.now ≤ 1024)) }
+    requires types_few { length types.now ≤ 512 }
+    requires terms_some { 1 ≤ length terms.now }
+    requires terms_few { length terms.now ≤ 1024 }
     ensures { result ≡ spec.entries_asked (S.meaning scheme.now).role types.now terms.now }
 {
     let t = types.len() as u32;

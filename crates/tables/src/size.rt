@@ -12,7 +12,9 @@ use roles::scheme::Scheme;
 
 // The size of type `i`, from the sizes of the types below it.
 fn written_out(e: Entry, i: u32, sizes: &[u32]) -> u32
-    requires { (type_operands e i ≡ true) × ((i < length sizes.now) × (((k : ℕ) → k < i → slice_index sizes.now k ≤ 4096))) }
+    requires fits { type_operands e i ≡ true }
+    requires inside { i < length sizes.now }
+    requires small { (k : ℕ) → k < i → slice_index sizes.now k ≤ 4096 }
     ensures { result ≡ size_by e sizes.now }
 {
     match e.tag {

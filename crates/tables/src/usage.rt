@@ -13,7 +13,10 @@ use crate::terms::Terms;
 
 // Counts the terms that one entry names.
 fn count(counts: &mut [u16], e: Entry, i: usize)
-    requires { (length counts.old ≡ 1024) × ((i < 1024) × ((Lower e i) × (((k : ℕ) → slice_index counts.old k ≤ 2048)))) }
+    requires long { length counts.old ≡ 1024 }
+    requires inside { i < 1024 }
+    requires lower { Lower e i }
+    requires few { (k : ℕ) → slice_index counts.old k ≤ 2048 }
     ensures { (k : ℕ) → slice_index counts.new k ≡ slice_index counts.old k + hits e k }
 {
     let n = named_terms(e.tag);

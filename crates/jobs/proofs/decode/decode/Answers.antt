@@ -13,7 +13,7 @@ pub returns-clause-types : goal.returns-clause-types
 returns-clause-types c =
     let bs : List ℕ = c.args.image.now in
     let t : ℕ = c.args.counts.types in
-    filled_front c.args.types.now _ _ _ _ _ t c.requires.1.0 c.fill.ensures (take_rest bs 4) (take_rest bs (4 + t + c.args.counts.terms))
+    filled_front c.args.types.now _ _ _ _ _ t c.requires.types c.fill.ensures (take_rest bs 4) (take_rest bs (4 + t + c.args.counts.terms))
 
 pub returns-clause-terms : goal.returns-clause-terms
 returns-clause-terms c =
@@ -21,4 +21,4 @@ returns-clause-terms c =
     let t : ℕ = c.args.counts.types in
     let n : ℕ = c.args.counts.terms in
     let ops : take (length bs - (4 + t + n)) (drop (4 + t + n) bs) ≡ drop (4 + t + n) bs = take_rest bs (4 + t + n) in
-    filled_front c.args.terms.now _ _ _ _ _ n c.requires.1.1 c.fill-2.ensures (take_rest bs (4 + t)) (take_rest _ (16 * t) ∙ ap (drop (16 * t)) ops)
+    filled_front c.args.terms.now _ _ _ _ _ n c.requires.terms c.fill-2.ensures (take_rest bs (4 + t)) (take_rest _ (16 * t) ∙ ap (drop (16 * t)) ops)

@@ -18,7 +18,7 @@ decode-requires g c =
     let m : Meaning = g.S.Scheme.meaning c.args.scheme.now in
     let o = shape m c.args.image.now _ _ c.in_ok-counts.counts c.in_ok-counts.ensures in
     let r = space m c.args.image.now _ _ c.in_ok-counts.counts c.in_ok-counts.ensures in
-    (o.long, (omega (arith, r.types), r.terms))
+    record { long = o.long; types = omega (arith, r.types); terms = r.terms }
 
 pub returns-in_err-counts : goal.returns-in_err-counts
 returns-in_err-counts g c =

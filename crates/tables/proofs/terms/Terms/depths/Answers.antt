@@ -31,14 +31,19 @@ hand_down-requires c =
     let s = c.in-Some.ensures.steps.1 in
     let v = c.loop-i.invariant in
     let t = turn _ _ _ c.loop-i.depths c.in-Some.e.now c.in-Some.i _ v.4 c.args.self.now.terms_few c.args.self.now.rooted v.2 s.0 s.1 in
-    (v.3, (t.inside, (t.lower, t.low)))
+    record { long = v.3; inside = t.inside; lower = t.lower; low = t.low }
 
 pub hand_down-requires-in-loop-i : goal.hand_down-requires-in-loop-i
 hand_down-requires-in-loop-i c =
     let s = c.in-Some.ensures.steps.1 in
     let v = c.loop-i.invariant in
     let t = turn _ _ _ c.loop-i.depths c.in-Some.e.now c.in-Some.i _ v.4 c.args.self.now.terms_few c.args.self.now.rooted v.2 s.0 s.1 in
-    (ap length c.hand_down.ensures ∙ (length_down c.in-Some.e.now 0 _ c.loop-i.depths ∙ v.3), (t.inside, (t.lower, t.low)))
+    record {
+      long = ap length c.hand_down.ensures ∙ (length_down c.in-Some.e.now 0 _ c.loop-i.depths ∙ v.3);
+      inside = t.inside;
+      lower = t.lower;
+      low = t.low;
+    }
 
 pub loop-i-init : goal.loop-i-init
 loop-i-init c =

@@ -7,17 +7,12 @@ use Rattle.tables.proofs.terms.Terms.uses.Goals as goal
 pub loop-i-init : goal.loop-i-init
 loop-i-init c = (refl, λ k. uses-none 1024 k)
 
-pub count-requires : goal.count-requires
-count-requires c = (
-  c.loop-i.invariant.0,
-  (
-    omega arith,
-    (
-      c.args.self.now.rooted c.loop-i.i (omega arith),
-      (λ k. rw (c.loop-i.invariant.1 k) (uses-few c.args.self.now.entries.now c.loop-i.i k (omega arith) (omega arith))),
-    ),
-  ),
-)
+pub count-requires-clause-lower : goal.count-requires-clause-lower
+count-requires-clause-lower c = c.args.self.now.rooted c.loop-i.i (omega arith)
+
+pub count-requires-clause-few : goal.count-requires-clause-few
+count-requires-clause-few c = λ k.
+    rw (c.loop-i.invariant.1 k) (uses-few c.args.self.now.entries.now c.loop-i.i k (omega arith) (omega arith))
 
 pub loop-i-preserved : goal.loop-i-preserved
 loop-i-preserved c =
