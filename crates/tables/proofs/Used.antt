@@ -1,6 +1,6 @@
 -- How often a term is named by one entry more, and how often at most.
 use Rattle.std.proofs.Common.{◌≡◌, ℕ, zero, suc, ◌+◌, ◌*◌, ◌<◌, ◌≤◌, List, [], ◌∷◌, ◌++◌, length, get_or, take, replicate, refl, ap, ◌∙◌, arith}
-use Rattle.std.proofs.lemmas.List.{take_more, take_all, length-take-le}
+use Rattle.std.proofs.lemmas.List.{take_more, length-take-le}
 use Rattle.std.proofs.lemmas.Bool.Decides.{nat_tests}
 use Rattle.tables.specs.declared.entry.Entry.{Entry}
 use Rattle.tables.specs.Entries.{at, no_entry}
@@ -29,6 +29,3 @@ pub uses-none : (n i : ℕ) → ◌≡◌ {A = ℕ} (get_or (replicate n 0) i 0)
 uses-none zero i = refl
 uses-none (suc n) zero = refl
 uses-none (suc n) (suc i) = uses-none n i
-
-pub uses-all : (es : List Entry) (k i : ℕ) → length es ≤ k → uses (take k es) i ≡ uses es i
-uses-all es k i h = ap (λ l. uses l i) (take_all k es h)
