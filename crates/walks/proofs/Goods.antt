@@ -20,16 +20,20 @@ Good role u (Ok (New e)) = Low role u e
 
 module _ (role : ℕ → Bool) (u : ℕ) where
   pub low_base : (k : ℕ) → k ≤ 2 → Low role u (base_type k)
-  low_base k h = record { some = omega arith; most = omega arith; kind = λ _. h; one = λ z. let y : ⊥ = omega arith in absurd y; two = λ z. let y : ⊥ = omega arith in absurd y; code = λ z. let y : ⊥ = omega arith in absurd y }
+  low_base k h = record { some = omega arith; most = omega arith; kind = λ _. h; one = λ z. omega arith; two = λ z. omega arith; code = λ z. let y : ⊥ = omega arith in absurd y }
 
   pub low_function : (x y : ℕ) → x < u → y < u → Low role u (function_type x y)
-  low_function x y h i = record { some = omega arith; most = omega arith; kind = λ z. let q : ⊥ = omega arith in absurd q; one = λ _. h; two = λ _. i; code = λ z. let q : ⊥ = omega arith in absurd q }
+  low_function x y h i = record { some = omega arith; most = omega arith; kind = λ z. omega arith; one = λ _. h; two = λ _. i; code = λ z. let y : ⊥ = omega arith in absurd y }
+
+  -- a type with a role
+  low_coded : (k a x : ℕ) → 3 ≤ k → k ≤ 4 → x < u → role a ≡ true → Low role u (record { tag = k; first = x; second = 0; third = a })
+  low_coded k a x l m h r = record { some = omega arith; most = m; kind = λ z. omega arith; one = λ _. h; two = λ z. omega arith; code = λ _. r }
 
   pub low_guarded : (a x : ℕ) → x < u → role a ≡ true → Low role u (guarded_type a x)
-  low_guarded a x h r = record { some = omega arith; most = omega arith; kind = λ z. let y : ⊥ = omega arith in absurd y; one = λ _. h; two = λ z. let y : ⊥ = omega arith in absurd y; code = λ _. r }
+  low_guarded a x h r = low_coded 3 a x (omega arith) (omega arith) h r
 
   pub low_computation : (a x : ℕ) → x < u → role a ≡ true → Low role u (computation_type a x)
-  low_computation a x h r = record { some = omega arith; most = omega arith; kind = λ z. let y : ⊥ = omega arith in absurd y; one = λ _. h; two = λ z. let y : ⊥ = omega arith in absurd y; code = λ _. r }
+  low_computation a x h r = low_coded 4 a x (omega arith) (omega arith) h r
 
   good_asked : (b : Bool) (c : TypingFault) (j : Judged) → (b ≡ true → Good role u j) → Good role u (asked b c j)
   good_asked true c j p = p refl
