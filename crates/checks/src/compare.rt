@@ -79,7 +79,8 @@ impl<S: Scheme> Types<'_, S> {
 
     /// Is type `a` below type `b`?
     pub(crate) fn below(&self, a: u32, b: u32) -> bool
-        requires { (a < self.now.used) × (b < self.now.used) }
+        requires left { a < self.now.used }
+        requires right { b < self.now.used }
         ensures { result ≡ rule.below (S.meaning self.now.scheme.now) (meant self.now.system) self.now.entries.now a b }
     {
         let mut pairs = ArrayVec::<Pair, 2048>::new();

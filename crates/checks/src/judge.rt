@@ -87,7 +87,8 @@ fn checked(place: u32, body: Entry) -> Result<Finding, TypingFault>
 impl<S: Scheme> Types<'_, S> {
     // The rule of an application of an `f` to an `x`.
     fn applied(&self, place: u32, f: u32, x: u32) -> Result<Finding, TypingFault>
-        requires { (f < self.now.used) × (x < self.now.used) }
+        requires function { f < self.now.used }
+        requires argument { x < self.now.used }
         ensures { result ≡ rule.applied (S.meaning self.now.scheme.now) (meant self.now.system) place self.now.entries.now f x }
     {
         let function = self.entries[f as usize];

@@ -12,6 +12,7 @@ pub(crate) struct Types<'a, S: Scheme> {
     pub(crate) scheme: &'a S,
     pub(crate) system: System,
     pub(crate) entries: &'a [Entry],
+    // Stays: the caller lends the table whole, and the walk appends to it, so the number of its types stands beside it.
     pub(crate) used: u32,
     ghost long: { used ≤ length entries.now },
     ghost few: { used ≤ 2048 },

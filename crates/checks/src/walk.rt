@@ -66,7 +66,8 @@ impl Frame {
 
 // The type of a variable's binder.
 fn lookup(binders: &[u32], depth: u32, e: Entry) -> u32
-    requires { (depth ≤ length binders.now) × ((e.tag ≡ 17 → e.first < depth)) }
+    requires long { depth ≤ length binders.now }
+    requires bound { e.tag ≡ 17 → e.first < depth }
     ensures { result ≡ bound_of (env binders.now depth) e }
 {
     if e.tag == VARIABLE {
@@ -86,7 +87,8 @@ fn enters(types: &[Entry], e: Entry, stage: u8, last: u32) -> bool
 
 // The type of the variable that is bound in the operand, if any is.
 fn binder(system: System, types: &[Entry], e: Entry, stage: u8, last: u32) -> u32
-    requires { ((e.tag ≡ 24 → stage ≡ 1 → last < length types.now)) × ((e.tag ≡ 18 → e.third < 2 ^ 32)) }
+    requires found { e.tag ≡ 24 → stage ≡ 1 → last < length types.now }
+    requires claim { e.tag ≡ 18 → e.third < 2 ^ 32 }
     ensures { result ≡ binder_of (meant system) types.now e stage last }
 {
     match (e.tag, stage) {
@@ -111,6 +113,7 @@ pub(crate) fn walk<S: Scheme>(
 {
     let mut frames = ArrayVec::<Frame, 1024>::new();
     frames.push(Frame::open(terms.len() as u32 - 1, 0));
+    // Stays: the types of the binders are a local array, of which each frame uses the first `depth`, so that a check needs no heap.
     let mut binders = [0u32; 1024];
     let mut used = t;
     let mut last: u32 = 0;
