@@ -65,6 +65,7 @@ impl Frame {
 }
 
 // The type of a variable's binder.
+#[tactic(auto, using(crate::proofs::Envs::env_at))]
 fn lookup(binders: &[u32], depth: u32, e: Entry) -> u32
     requires long { depth ≤ length binders.now }
     requires bound { e.tag ≡ 17 → e.first < depth }
