@@ -1,10 +1,10 @@
 -- Entries laid into a table from a place on. Assumes nothing.
-use Rattle.std.proofs.Common.{◌≡◌, ℕ, ◌+◌, ◌<◌, ◌≤◌, List, [], ◌∷◌, ◌++◌, length, take, drop, set, sym, ap, ◌∙◌, append_assoc, add-zero, add_assoc, refl, add-one, arith, length-append, length-take-le, take-take, drop-drop, take_at, drop_at}
+use Rattle.std.proofs.Common.{◌≡◌, ℕ, ◌+◌, ◌<◌, ◌≤◌, List, [], ◌∷◌, ◌++◌, length, take, drop, set, sym, ap, ◌∙◌, append_assoc, add-zero, add_assoc, refl, add-one, arith, length-append, length-drop, length-take-le, take-take, drop-drop, take_at, drop_at}
 use lib.Seq.{take-append-le, set_split}
 use Rattle.std.proofs.lemmas.List.{take-append-drop}
 use Rattle.tables.specs.declared.entry.Entry.{Entry}
 use Rattle.machine.specs.Plans.{Written}
-use Rattle.runs.specs.declared.copy.Copied.{Copied}
+use Rattle.runs.specs.declared.room.Room.{Room}
 use Rattle.runs.specs.Copy.{laid, fresh, Wrote, renewal}
 
 pub laid_nil : (es : List Entry) (u : ℕ) → laid es u [] ≡ es
@@ -37,25 +37,42 @@ pub set_laid : (es : List Entry) (n : ℕ) (x : Entry) → n < length es → set
 set_laid es n x h = set_split es n x h ∙ ap (λ k. take n es ++ (x ∷ drop k es)) (sym (add-one n))
 
 -- nothing is written
-pub still : (es : List Entry) (f k : ℕ) (w : Written) → w ≡ record { entries = []; place = k } → Wrote es es f w (record { place = k; filled = f })
-still es f k w e = record {
-  table = sym (ap (λ z. laid es f z.entries) e ∙ laid_nil es f);
-  place = sym (ap (λ z. z.place) e);
-  filled = sym (ap (λ z. f + length z.entries) e ∙ add-zero f);
+pub still : (x : Room) (k : ℕ) (w : Written) → w ≡ record { entries = []; place = k } → Wrote x x w k
+still x k w e = record {
+  table = sym (ap (λ (z : Written). laid x.free.now x.filled z.entries) e ∙ laid_nil x.free.now x.filled);
+  place = sym (ap (λ (z : Written). z.place) e);
+  filled = sym (ap (λ (z : Written). x.filled + length z.entries) e ∙ add-zero x.filled);
+  base = refl;
+  same = refl;
 }
 
 -- one entry is written
-pub appended : (es : List Entry) (f b : ℕ) (x : Entry) → f < length es → Wrote es (set es f x) f (fresh b x) (record { place = b; filled = f + 1 })
-appended es f b x h = record { table = set_laid es f x h; place = refl; filled = omega arith }
+pub appended : (x y : Room) (e : Entry) → x.filled < length x.free.now → y.free.now ≡ set x.free.now x.filled e → y.filled ≡ x.filled + 1 → y.base ≡ x.base → y.free.ghost_name ≡ x.free.ghost_name →
+    Wrote x y (fresh (x.base + x.filled) e) (x.base + x.filled)
+appended x y e h t f b n = record { table = t ∙ set_laid x.free.now x.filled e h; place = refl; filled = omega arith; base = b; same = n }
 
 -- one after another
-pub joined : (es es₁ es₂ : List Entry) (f : ℕ) (v w x : Written) (a c : Copied) → f ≤ length es → Wrote es es₁ f v a → Wrote es₁ es₂ a.filled w c →
-    x ≡ record { entries = v.entries ++ w.entries; place = w.place } → Wrote es es₂ f x c
-joined es es₁ es₂ f v w x a c h V W q = record {
-  table = W.table ∙ (ap (λ (z : List Entry). laid z a.filled w.entries) V.table ∙ (ap (λ (k : ℕ). laid (laid es f v.entries) k w.entries) V.filled ∙ (laid_laid es f v.entries w.entries h ∙ ap (λ (z : Written). laid es f z.entries) (sym q))));
-  place = W.place ∙ sym (ap (λ (z : Written). z.place) q);
-  filled = let n = ap (λ (z : Written). length z.entries) q in let m = length-append v.entries w.entries in let y = W.filled in let z = V.filled in omega arith;
+pub joined : (x y z : Room) (v w u : Written) (a c : ℕ) → x.filled ≤ length x.free.now → Wrote x y v a → Wrote y z w c → u ≡ record { entries = v.entries ++ w.entries; place = w.place } → Wrote x z u c
+joined x y z v w u a c h V W q = record {
+  table = W.table ∙ (ap (λ (t : List Entry). laid t y.filled w.entries) V.table ∙ (ap (λ (k : ℕ). laid (laid x.free.now x.filled v.entries) k w.entries) V.filled
+      ∙ (laid_laid x.free.now x.filled v.entries w.entries h ∙ ap (λ (t : Written). laid x.free.now x.filled t.entries) (sym q))));
+  place = W.place ∙ sym (ap (λ (t : Written). t.place) q);
+  filled = let n = ap (λ (t : Written). length t.entries) q in let m = length-append v.entries w.entries in let i = W.filled in let j = V.filled in omega arith;
+  base = W.base ∙ V.base;
+  same = W.same ∙ V.same;
 }
+
+-- the room stays as long
+pub long : (x y : Room) (w : Written) (k : ℕ) → Wrote x y w k → x.filled + length w.entries ≤ length x.free.now → length y.free.now ≡ length x.free.now
+long x y w k W h =
+    let es : List Entry = x.free.now in
+    let u : ℕ = x.filled in
+    let a = length-take-le u es (omega arith) in
+    let b = length-append (take u es) (w.entries ++ drop (u + length w.entries) es) in
+    let c = length-append w.entries (drop (u + length w.entries) es) in
+    let d = length-drop (u + length w.entries) es in
+    let e = ap length W.table in
+    omega arith
 
 -- an entry over what was written
 abbrev pub over : ℕ → Entry → List Entry → ℕ → ℕ → Written

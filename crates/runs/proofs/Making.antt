@@ -6,12 +6,12 @@ use Rattle.machine.specs.Plans.{Plan, old, Written, write}
 use Rattle.machine.proofs.Growing.{append-nil}
 use Rattle.runs.specs.declared.find.Act.{Act}
 use Rattle.runs.specs.declared.find.Act.TheVariants.{Unit, Share}
-use Rattle.runs.specs.declared.copy.Copied.{Copied}
+use Rattle.runs.specs.declared.room.Room.{Room}
 use Rattle.runs.specs.Reach.{no_entry, Ground}
 use Rattle.runs.specs.Copy.{places, names, renewal, fresh, Wrote}
 use Rattle.runs.specs.Find.{act_plan, wrap, along, ActFits, PathFits}
 use Rattle.runs.proofs.Tags.{lower_at, tagged_at}
-use Rattle.runs.proofs.Laying.{over, over_is, joined, still}
+use Rattle.runs.proofs.Laying.{over, over_is, joined, long, still}
 use Rattle.runs.proofs.Copying.{arity, arity_is, renewed, renewed_is, lower_second, label_at}
 
 wrap_write : (H : Head) (b : ℕ) (p : Plan) (u : Tree) (k : ℕ) → (arity H ≡ 0 → ⊥) → (arity H ≡ 2 → label u ≡ k) →
@@ -59,20 +59,17 @@ module _ (us : List Entry) (G : Ground us) where
       let w = wrap_places (head e) (along us n e.first a) (tree us e.second) (λ y. f.1 (ar ∙ y)) in
       (omega (arith, ih.0), ih.1)
 
--- into the free places
-module _ (us : List Entry) (G : Ground us) (es : List Entry) (f n k i : ℕ) (a : Act) (q : n ≡ suc k) (F : PathFits us n i a)
-    (room : f + length (write (length us + f) (along us n i a)).entries ≤ length es) where
+-- into the room
+module _ (us : List Entry) (G : Ground us) (x : Room) (n k i : ℕ) (a : Act) (q : n ≡ suc k) (F : PathFits us n i a)
+    (room : x.filled + length (write (x.base + x.filled) (along us n i a)).entries ≤ length x.free.now) where
   abbrev e : Entry
   e = get_or us i no_entry
 
   abbrev b : ℕ
-  b = length us + f
+  b = x.base + x.filled
 
   fits : (i < length us) × (names e.tag ≡ 0 → ⊥) × PathFits us k e.first a
   fits = path_more us G n k i a e q refl F
-
-  pub way_here : i < length us
-  way_here = fits.0
 
   pub way_fits : PathFits us k e.first a
   way_fits = fits.2
@@ -83,36 +80,42 @@ module _ (us : List Entry) (G : Ground us) (es : List Entry) (f n k i : ℕ) (a 
   whole : write b (along us n i a) ≡ over b e inner.entries inner.place e.second
   whole = along_more us G b n k i a e q refl fits.0 fits.1
 
-  pub way_room : f + length inner.entries + 1 ≤ length es
+  pub way_room : x.filled + length inner.entries + 1 ≤ length x.free.now
   way_room =
       let s = ap (λ v. length v.entries) whole in
       let l = length-append inner.entries (renewal e inner.place e.second ∷ []) in
       omega arith
 
-  pub way_done : (es₁ es₂ : List Entry) (c z : Copied) (x : Entry) → Wrote es es₁ f inner c → x ≡ renewal e c.place e.second → Wrote es₁ es₂ c.filled (fresh (length us + c.filled) x) z →
-      Wrote es es₂ f (write b (along us n i a)) z
-  way_done es₁ es₂ c z x A r X =
+  pub after_inner : (y : Room) (c : ℕ) → Wrote x y inner c → y.filled < length y.free.now
+  after_inner y c A = let r = way_room in let l = long x y inner c A (omega arith) in let m = A.filled in omega arith
+
+  pub way_done : (y z : Room) (c p : ℕ) (v : Entry) → Wrote x y inner c → v ≡ renewal e c e.second → Wrote y z (fresh (y.base + y.filled) v) p → Wrote x z (write b (along us n i a)) p
+  way_done y z c p v A r X =
       let m = A.filled in
+      let j = A.base in
       let l = way_room in
-      joined es es₁ es₂ f inner (fresh (length us + c.filled) x) (write b (along us n i a)) c z (omega arith) A X
-      (whole ∙ over_is b e x inner.entries inner.place e.second (length us + c.filled) (r ∙ ap (λ (y : ℕ). renewal e y e.second) A.place) (omega arith))
+      joined x y z inner (fresh (y.base + y.filled) v) (write b (along us n i a)) c p (omega arith) A X
+      (whole ∙ over_is b e v inner.entries inner.place e.second (y.base + y.filled) (r ∙ ap (λ (t : ℕ). renewal e t e.second) A.place) (omega arith))
 
 -- a unit, and what is shared
-module _ (us : List Entry) (G : Ground us) (es : List Entry) (f k : ℕ) (a : Act) (fit : ActFits us a) where
-  unit_write : a ≡ Unit k → write (length us + f) (act_plan us a) ≡ fresh (length us + f) (record { tag = 23; first = k; second = 0; third = 0 })
+module _ (us : List Entry) (G : Ground us) (x : Room) (k : ℕ) (a : Act) (fit : ActFits us a) where
+  abbrev at : ℕ
+  at = x.base + x.filled
+
+  unit_write : a ≡ Unit k → write at (act_plan us a) ≡ fresh at (record { tag = 23; first = k; second = 0; third = 0 })
   unit_write q =
       let l : k < length us = subst (ActFits us) q fit in
-      ap (λ (y : Act). write (length us + f) (act_plan us y)) q
-      ∙ (ap (λ (j : ℕ). record { entries = record { tag = 23; first = j; second = 0; third = 0 } ∷ []; place = length us + f + 0 }) (label_at us k G l)
-      ∙ ap (λ (p : ℕ). record { entries = record { tag = 23; first = k; second = 0; third = 0 } ∷ []; place = p }) (add-zero (length us + f)))
+      ap (λ (y : Act). write at (act_plan us y)) q
+      ∙ (ap (λ (j : ℕ). record { entries = record { tag = 23; first = j; second = 0; third = 0 } ∷ []; place = at + 0 }) (label_at us k G l)
+      ∙ ap (λ (p : ℕ). record { entries = record { tag = 23; first = k; second = 0; third = 0 } ∷ []; place = p }) (add-zero at))
 
-  pub unit_room : a ≡ Unit k → f + length (write (length us + f) (act_plan us a)).entries ≤ length es → f < length es
-  unit_room q room = let s : length (write (length us + f) (act_plan us a)).entries ≡ 1 = ap (λ v. length v.entries) (unit_write q) in omega arith
+  pub unit_room : a ≡ Unit k → x.filled + length (write at (act_plan us a)).entries ≤ length x.free.now → x.filled < length x.free.now
+  unit_room q room = let s : length (write at (act_plan us a)).entries ≡ 1 = ap (λ v. length v.entries) (unit_write q) in omega arith
 
-  pub unit_done : (fs : List Entry) (c : Copied) → a ≡ Unit k → Wrote es fs f (fresh (length us + f) (record { tag = 23; first = k; second = 0; third = 0 })) c → Wrote es fs f (write (length us + f) (act_plan us a)) c
-  unit_done fs c q W = subst (λ (w : Written). Wrote es fs f w c) (sym (unit_write q)) W
+  pub unit_done : (y : Room) (c : ℕ) → a ≡ Unit k → Wrote x y (fresh at (record { tag = 23; first = k; second = 0; third = 0 })) c → Wrote x y (write at (act_plan us a)) c
+  unit_done y c q W = subst (λ (w : Written). Wrote x y w c) (sym (unit_write q)) W
 
-  pub share_done : a ≡ Share k → Wrote es es f (write (length us + f) (act_plan us a)) (record { place = k; filled = f })
+  pub share_done : a ≡ Share k → Wrote x x (write at (act_plan us a)) k
   share_done q =
       let l : k < length us = subst (ActFits us) q fit in
-      still es f k (write (length us + f) (act_plan us a)) (ap (λ (y : Act). write (length us + f) (act_plan us y)) q ∙ ap (λ (j : ℕ). record { entries = []; place = j }) (label_at us k G l))
+      still x k (write at (act_plan us a)) (ap (λ (y : Act). write at (act_plan us y)) q ∙ ap (λ (j : ℕ). record { entries = []; place = j }) (label_at us k G l))

@@ -3,7 +3,7 @@ use Rattle.std.specs.Prelude.{◌≡◌, ℕ, suc, ◌+◌, ◌<◌, true, cond,
 use Rattle.tables.specs.declared.entry.Entry.{Entry}
 pub use Rattle.tables.specs.Entries.{names}
 use Rattle.tables.specs.Entries.{binds}
-use Rattle.runs.specs.declared.copy.Copied.{Copied}
+use Rattle.runs.specs.declared.room.Room.{Room}
 use Rattle.machine.specs.Labelled.{tree, closed}
 use Rattle.machine.specs.Plans.{Plan, old, new_one, new_two, Written, write, replace}
 
@@ -34,11 +34,14 @@ pub record Copiable (us : List Entry) (d i : ℕ) : Type 0 where
 abbrev pub fresh : ℕ → Entry → Written
 fresh b e = record { entries = e ∷ []; place = b }
 
--- The free places es became fs: the entries of w were laid from place f on, and c tells where the whole stands and how many are filled then.
-pub record Wrote (es fs : List Entry) (f : ℕ) (w : Written) (c : Copied) : Type 0 where
-  pub table : fs ≡ laid es f w.entries
-  pub place : c.place ≡ w.place
-  pub filled : c.filled ≡ f + length w.entries
+-- The room x became y: the entries of w were laid into its free places, behind those that were filled, and k is where the whole stands.
+pub record Wrote (x y : Room) (w : Written) (k : ℕ) : Type 0 where
+  pub table : y.free.now ≡ laid x.free.now x.filled w.entries
+  pub place : k ≡ w.place
+  pub filled : y.filled ≡ x.filled + length w.entries
+  -- it is a room in the same table
+  pub base : y.base ≡ x.base
+  pub same : y.free.ghost_name ≡ x.free.ghost_name
 
 -- The depth within the term of number j, by the tag.
 abbrev pub within : ℕ → ℕ → ℕ → ℕ

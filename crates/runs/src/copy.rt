@@ -1,17 +1,11 @@
 //! Replacing: the copy of a body with an entry for its variable. It goes over plain terms and knows no scheme.
 ghost use Rattle.std.specs.Prelude.{◌≡◌, ◌+◌, ◌^◌, ◌<◌, ◌≤◌, min, length};
-ghost use Rattle.runs.specs.Copy.{Copiable, Wrote, copied, count_of, fresh, renewal, second_of, third_of, within};
+ghost use Rattle.runs.specs.Copy.{Copiable, Wrote, copied, count_of, renewal, second_of, third_of, within};
 
 use crate::reach::Used;
+use crate::room::Room;
 use tables::entry::Entry;
 use tables::operand::{ABSTRACTION, APPLICATION, GUARD, LET, RAISE, RESTRICT, binds, named_terms};
-
-/// Where what was written stands, and how many free places are filled after it.
-#[derive(Clone, Copy)]
-pub(crate) struct Copied {
-    pub place: u32,
-    pub filled: u32,
-}
 
 // The depth within the term of that number that an entry names.
 fn depth_within(tag: u8, number: u8, depth: u32) -> u32
@@ -52,21 +46,6 @@ pub(crate) fn renew(e: Entry, first: u32, other: u32) -> Entry
     }
 }
 
-impl Used<'_> {
-    /// Writes one entry into the next free place.
-    pub(crate) fn append(self, free: &mut [Entry], filled: u32, e: Entry) -> Copied
-        requires room { filled < length free.old }
-        requires fits { length self.terms.now + length free.old < 2 ^ 32 }
-        ensures { Wrote free.old free.new filled (fresh (length self.entry.terms.now + filled) e) result }
-    {
-        free[filled as usize] = e;
-        Copied {
-            place: self.terms.len() as u32 + filled,
-            filled: filled + 1,
-        }
-    }
-}
-
 /// What a copy puts in for a variable: one of the used entries.
 #[derive(Clone, Copy)]
 pub(crate) struct Putting<'a> {
@@ -76,31 +55,28 @@ pub(crate) struct Putting<'a> {
 }
 
 impl Putting<'_> {
-    /// Copies entry `at` into the free places, with what is put in for the variable at `depth`.
+    /// Copies entry `at` into the room, with what is put in for the variable at `depth`, and tells where the copy stands.
     /// What does not contain the variable is shared.
-    pub(crate) fn copy(self, free: &mut [Entry], at: u32, depth: u32, filled: u32) -> Copied
+    pub(crate) fn copy(self, room: &mut Room, at: u32, depth: u32) -> u32
         requires form { Copiable self.used.terms.now depth at }
-        requires fits { (depth + at + 1 < 2 ^ 32) × (length self.used.terms.now + length free.old < 2 ^ 32) }
-        requires room { filled + length (copied self.used.terms.now (length self.used.terms.now + filled) depth self.with at).entries ≤ length free.old }
-        ensures { Wrote free.old free.new filled (copied self.entry.used.terms.now (length self.entry.used.terms.now + filled) depth self.entry.with at) result }
+        requires fits { depth + at + 1 < 2 ^ 32 }
+        requires room { room.old.filled + length (copied self.used.terms.now (room.old.base + room.old.filled) depth self.with at).entries ≤ length room.old.free.now }
+        ensures { Wrote room.old room.new (copied self.entry.used.terms.now (room.old.base + room.old.filled) depth self.entry.with at) result }
     {
         if self.used.reach[at as usize] as u32 <= depth {
-            return Copied { place: at, filled };
+            return at;
         }
         let e = self.used.terms[at as usize];
         let n = named_terms(e.tag);
         if n == 0 {
-            return Copied {
-                place: self.with,
-                filled,
-            };
+            return self.with;
         }
-        let a = self.copy(free, e.first, depth_within(e.tag, 0, depth), filled);
+        let a = self.copy(room, e.first, depth_within(e.tag, 0, depth));
         if n == 1 {
-            return self.used.append(free, a.filled, renew(e, a.place, 0));
+            return room.append(renew(e, a, 0));
         }
-        let b = self.copy(free, e.second, depth_within(e.tag, 1, depth), a.filled);
-        self.used.append(free, b.filled, renew(e, a.place, b.place))
+        let b = self.copy(room, e.second, depth_within(e.tag, 1, depth));
+        room.append(renew(e, a, b))
     }
 
     /// How many places the copy takes, or `limit` if it takes more: the count stops there.

@@ -5,6 +5,7 @@ mod copy;
 pub mod fault;
 mod find;
 mod reach;
+mod room;
 pub mod run;
 mod turn;
 mod usable;

@@ -1,13 +1,14 @@
 //! One turn at the table: found, counted, then written.
 ghost use Rattle.std.specs.Prelude.{◌≡◌, ◌+◌, ◌^◌, ◌<◌, ◌≤◌, min, length, nat_le};
 ghost use Rattle.machine.specs.Plans.{write};
-ghost use Rattle.runs.specs.Copy.{Wrote, places};
+ghost use Rattle.runs.specs.Copy.{Wrote, laid, places};
 ghost use Rattle.runs.specs.Find.{ActFits, PathFits, act_plan, along};
 ghost use Rattle.runs.specs.Table.{Live, LiveAfter, TurnIs};
 
-use crate::copy::{Copied, Putting, renew};
-use crate::find::Act;
+use crate::copy::{Putting, renew};
+use crate::find::{Act, Redex};
 use crate::reach::{Used, fill};
+use crate::room::Room;
 use machine::condition::Condition;
 use roles::scheme::Scheme;
 use tables::entry::Entry;
@@ -21,41 +22,58 @@ pub(crate) struct Moved {
 }
 
 impl Used<'_> {
-    // Does what an act says, into the free places.
-    fn make_act(self, free: &mut [Entry], act: Act, filled: u32) -> Copied
+    // Does what an act says, into the room, and tells where what was made stands.
+    fn make_act(self, room: &mut Room, act: Act) -> u32
         requires form { ActFits self.terms.now act }
-        requires fits { length self.terms.now + length free.old < 2 ^ 32 }
-        requires room { filled + length (write (length self.terms.now + filled) (act_plan self.terms.now act)).entries ≤ length free.old }
-        ensures { Wrote free.old free.new filled (write (length self.entry.terms.now + filled) (act_plan self.entry.terms.now act)) result }
+        requires room { room.old.filled + length (write (room.old.base + room.old.filled) (act_plan self.terms.now act)).entries ≤ length room.old.free.now }
+        ensures { Wrote room.old room.new (write (room.old.base + room.old.filled) (act_plan self.entry.terms.now act)) result }
     {
         match act {
-            Act::Place { body, with } => Putting { used: self, with }.copy(free, body, 0, filled),
-            Act::Unit { of } => {
-                let unit = Entry {
-                    tag: UNIT,
-                    first: of,
-                    second: 0,
-                    third: 0,
-                };
-                self.append(free, filled, unit)
-            }
-            Act::Share { of } => Copied { place: of, filled },
+            Act::Place { body, with } => Putting { used: self, with }.copy(room, body, 0),
+            Act::Unit { of } => room.append(Entry {
+                tag: UNIT,
+                first: of,
+                second: 0,
+                third: 0,
+            }),
+            Act::Share { of } => of,
         }
     }
 
     // Does the act `path` entries inward from `at`, and then writes those entries anew, from inside out.
-    fn make_on(self, free: &mut [Entry], at: u32, act: Act, path: u32, filled: u32) -> Copied
+    fn make_on(self, room: &mut Room, at: u32, act: Act, path: u32) -> u32
         requires form { PathFits self.terms.now path at act }
-        requires fits { length self.terms.now + length free.old < 2 ^ 32 }
-        requires room { filled + length (write (length self.terms.now + filled) (along self.terms.now path at act)).entries ≤ length free.old }
-        ensures { Wrote free.old free.new filled (write (length self.entry.terms.now + filled) (along self.entry.terms.now path at act)) result }
+        requires room { room.old.filled + length (write (room.old.base + room.old.filled) (along self.terms.now path at act)).entries ≤ length room.old.free.now }
+        ensures { Wrote room.old room.new (write (room.old.base + room.old.filled) (along self.entry.terms.now path at act)) result }
     {
         if path == 0 {
-            return self.make_act(free, act, filled);
+            return self.make_act(room, act);
         }
         let e = self.terms[at as usize];
-        let a = self.make_on(free, e.first, act, path - 1, filled);
-        self.append(free, a.filled, renew(e, a.place, e.second))
+        let a = self.make_on(room, e.first, act, path - 1);
+        room.append(renew(e, a, e.second))
+    }
+
+    // Makes the step that was found, into the free places.
+    fn make(self, free: &mut [Entry], at: u32, redex: Redex) -> Moved
+        requires form { PathFits self.terms.now redex.path at redex.act }
+        requires fits { length self.terms.now + length free.old < 2 ^ 32 }
+        requires room { length (write (length self.terms.now) (along self.terms.now redex.path at redex.act)).entries ≤ length free.old }
+        ensures table { free.new ≡ laid free.old 0 (write (length self.entry.terms.now) (along self.entry.terms.now redex.path at redex.act)).entries }
+        ensures current { result.current ≡ (write (length self.entry.terms.now) (along self.entry.terms.now redex.path at redex.act)).place }
+        ensures used { result.used ≡ length self.entry.terms.now + length (write (length self.entry.terms.now) (along self.entry.terms.now redex.path at redex.act)).entries }
+    {
+        let base = self.terms.len() as u32;
+        let mut room = Room {
+            free,
+            base,
+            filled: 0,
+        };
+        let current = self.make_on(&mut room, at, redex.act, redex.path);
+        Moved {
+            current,
+            used: base + room.filled,
+        }
     }
 
     // How many places an act takes, or `limit` if it takes more.
@@ -99,11 +117,7 @@ fn turn_at<S: Scheme>(
     if !old.fits(redex.act, redex.path, free.len() as u32) {
         return Err(Condition::TableFull);
     }
-    let made = old.make_on(free, current, redex.act, redex.path, 0);
-    Ok(Moved {
-        current: made.place,
-        used: used + made.filled,
-    })
+    Ok(old.make(free, current, redex))
 }
 
 /// One turn, after which the reaches of the new entries are known too.

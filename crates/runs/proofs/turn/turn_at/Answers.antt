@@ -29,10 +29,10 @@ returns-then-not-fits g c =
       sym c.split_at_mut-old.ensures.value,
     )
 
-pub make_on-made-requires-clause-room : goal.make_on-made-requires-clause-room
-make_on-made-requires-clause-room g c =
+pub make-requires-clause-room : goal.make-requires-clause-room
+make-requires-clause-room g c =
     let us : List Entry = c.split_at_mut-old.result.0.now in
     let x = c.in_ok-redex.redex in
-    let l = length_along us (length us + 0) c.args.current x.act x.path (subst Ground (sym c.split_at_mut-old.ensures.front) c.requires.0.ground) c.in_ok-redex.ensures.fits in
+    let l = length_along us (length us) c.args.current x.act x.path (subst Ground (sym c.split_at_mut-old.ensures.front) c.requires.0.ground) c.in_ok-redex.ensures.fits in
     let o = leb-true (places (act_plan us x.act) + x.path) (length c.split_at_mut-old.result.1.now) (sym c.if-not-fits.ensures) in
     omega arith

@@ -1,22 +1,19 @@
 use Rattle.std.proofs.Common.{◌≡◌, suc, ◌-◌, arith}
-use Rattle.runs.proofs.Making.{way_fits, way_room, way_done}
+use Rattle.runs.proofs.Making.{way_fits, way_room, after_inner, way_done}
 use Rattle.runs.proofs.reach.Used.+make_on.Goals as goal
 
 pub make_on-a-requires : goal.make_on-a-requires
 make_on-a-requires t c =
     let q : c.args.path ≡ suc (c.args.path - 1) = omega arith in
-    let f = way_fits c.args.self.terms.now c.args.self.ground c.args.free.now c.args.filled c.args.path (c.args.path - 1) c.args.at c.args.act q c.requires.form c.requires.room in
-    let r = way_room c.args.self.terms.now c.args.self.ground c.args.free.now c.args.filled c.args.path (c.args.path - 1) c.args.at c.args.act q c.requires.form c.requires.room in
-    (omega arith, (f, (c.requires.fits, omega arith)))
+    let r = way_room c.args.self.terms.now c.args.self.ground c.args.room.now c.args.path (c.args.path - 1) c.args.at c.args.act q c.requires.form c.requires.room in
+    (omega arith, (way_fits c.args.self.terms.now c.args.self.ground c.args.room.now c.args.path (c.args.path - 1) c.args.at c.args.act q c.requires.form c.requires.room, omega arith))
 
-pub append-requires-clause-room : goal.append-requires-clause-room
-append-requires-clause-room t c =
+pub append-requires : goal.append-requires
+append-requires t c =
     let q : c.args.path ≡ suc (c.args.path - 1) = omega arith in
-    let r = way_room c.args.self.terms.now c.args.self.ground c.args.free.now c.args.filled c.args.path (c.args.path - 1) c.args.at c.args.act q c.requires.form c.requires.room in
-    omega (arith, c.make_on-a.ensures.filled, c.make_on-a.auto.free)
+    after_inner c.args.self.terms.now c.args.self.ground c.args.room.now c.args.path (c.args.path - 1) c.args.at c.args.act q c.requires.form c.requires.room c.make_on-a.new.room c.make_on-a.result c.make_on-a.ensures
 
 pub returns : goal.returns
 returns t c =
     let q : c.args.path ≡ suc (c.args.path - 1) = omega arith in
-    way_done c.args.self.terms.now c.args.self.ground c.args.free.now c.args.filled c.args.path (c.args.path - 1) c.args.at c.args.act q c.requires.form c.requires.room
-    c.make_on-a.new.free c.append.new.free c.make_on-a.result c.append.result c.renew.result c.make_on-a.ensures c.renew.ensures c.append.ensures
+    way_done c.args.self.terms.now c.args.self.ground c.args.room.now c.args.path (c.args.path - 1) c.args.at c.args.act q c.requires.form c.requires.room c.make_on-a.new.room c.append.new.self c.make_on-a.result c.append.result c.renew.result c.make_on-a.ensures c.renew.ensures c.append.ensures
