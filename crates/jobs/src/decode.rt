@@ -9,7 +9,9 @@ pub(crate) fn bytes_at<const N: usize>(bytes: &[u8], p: usize) -> [u8; N]
     requires { p + N ≤ length bytes.now }
     ensures { result ≡ take N (drop p bytes.now) }
 {
-    *bytes[p..].first_chunk::<N>().unwrap()
+    let mut chunk = [0u8; N];
+    chunk.copy_from_slice(&bytes[p..p + N]);
+    chunk
 }
 
 // Entry `k` of a table, from its tags and its operands.
