@@ -9,6 +9,7 @@ pub fn read_code(bytes: &[u8], p: usize) -> Option<u64>
     Some(u64::from_le_bytes(*code))
 }
 
+// Stays: one function of one line for each width that an image has. A trait over three types of number would be longer.
 /// A number of 16 bits as bytes, the lowest first.
 pub fn bytes16(half: u16) -> [u8; 2]
     ensures { result ≡ bytes_of 2 half }

@@ -5,20 +5,11 @@ use jobs::writer::write;
 use masks::Mask;
 use roles::fault::Fault;
 use std::alloc::{AllocError, Global};
+pub(crate) use tables::entry::entry_of as e;
 use tables::entry::{Counts, Entry};
 
 /// The scheme of the cases: roles are the codes below 256.
 pub(crate) const MASK: Mask = Mask { width: 8 };
-
-/// One entry.
-pub(crate) fn e(tag: u8, first: u32, second: u32, third: u64) -> Entry {
-    Entry {
-        tag,
-        first,
-        second,
-        third,
-    }
-}
 
 /// A base value of kind Unit.
 pub(crate) fn unit() -> Entry {

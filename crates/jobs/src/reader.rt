@@ -58,6 +58,7 @@ fn examine<S: Scheme>(scheme: &S, image: &[u8], counts: Counts) -> Result<(), Fo
     requires { Outlined (S.meaning scheme.now) image.now counts.types counts.terms }
     ensures { result ≡ entries_asked (S.meaning scheme.now).role (types_in image.now counts.types counts.terms) (terms_in image.now counts.types counts.terms) }
 {
+    // Stays: tables of fixed size, since a reading may not fail for want of memory.
     let mut types = [Entry::default(); 1536];
     let mut terms = [Entry::default(); 1024];
     decode(image, counts, &mut types, &mut terms);

@@ -5,17 +5,7 @@ use jobs::writer::write;
 use masks::Mask;
 use std::alloc::{AllocError, Global};
 use std::test::Fail;
-use tables::entry::{Counts, Entry};
-
-// One entry.
-fn e(tag: u8, first: u32, second: u32, third: u64) -> Entry {
-    Entry {
-        tag,
-        first,
-        second,
-        third,
-    }
-}
+use tables::entry::{Counts, Entry, entry_of as e};
 
 // The listing of a job under the mask of width 8; empty if the job is refused.
 fn listed(

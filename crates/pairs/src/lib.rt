@@ -91,6 +91,7 @@ impl<A: Scheme, B: Scheme> Scheme for Pair<A, B> {
         }
     }
 
+    // Stays: join, meet and remainder differ in the question that they put to both parts. One function of two closures, one for each type of part, would be longer.
     fn join(&self, a: u64, b: u64) -> Option<u64> {
         let (a, b) = (self.split(a)?, self.split(b)?);
         let x = self.first.join(a.first, b.first)?;

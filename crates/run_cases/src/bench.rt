@@ -3,20 +3,11 @@ use masks::Mask;
 use roles::fault::Fault;
 use runs::fault::StartFault;
 use runs::run::{Look, Progress, Run, rehearse};
+pub(crate) use tables::entry::entry_of as e;
 use tables::entry::{Counts, Entry};
 
 /// The scheme of the cases: roles are the codes below 256.
 pub(crate) const MASK: Mask = Mask { width: 8 };
-
-/// One entry.
-pub(crate) fn e(tag: u8, first: u32, second: u32, third: u64) -> Entry {
-    Entry {
-        tag,
-        first,
-        second,
-        third,
-    }
-}
 
 /// A rehearsal of the first `n` terms, with one base type.
 pub(crate) fn start(terms: &[Entry], n: u32, role: u64) -> Result<Run, StartFault> {

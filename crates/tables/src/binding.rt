@@ -40,6 +40,7 @@ impl Terms<'_> {
     fn depths(&self) -> [u16; 1024]
         ensures { result ≡ depths self.now.entries.now }
     {
+        // Stays: a local array beside the entries, since a scan of form may not fail for want of memory.
         let mut depths = [0u16; 1024];
         for (i, e) in self.entries.iter().enumerate().rev() {
             let depth = depths[i];

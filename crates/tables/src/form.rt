@@ -69,6 +69,7 @@ fn ask_entries<S: Scheme>(scheme: &S, types: &[Entry], terms: &[Entry]) -> Resul
     terms.ask_bound()
 }
 
+// Stays: the counts and both tables are parameters by themselves, here and in all calls on a job. The tables are the caller's, and a check writes to the types.
 /// Has a job of so many types and terms, in two lent tables, the form of one? The first question answered with no is told.
 pub fn form<S: Scheme>(
     scheme: &S,

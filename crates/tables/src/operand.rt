@@ -8,6 +8,7 @@ use crate::entry::Entry;
 use crate::fault::FormFault;
 use roles::scheme::Scheme;
 
+// Stays: tags are numbers with names and not an enum. Any byte may stand in a lent table, and whether it is a tag is asked.
 pub const BASE: u8 = 1;
 
 pub const FUNCTION: u8 = 2;

@@ -29,6 +29,7 @@ pub(crate) fn ask_types<S: Scheme>(scheme: &S, types: &[Entry]) -> Result<(), Fo
     requires { length types.now ≤ 512 }
     ensures { result ≡ of_each (ask_type (S.meaning scheme.now).role types.now) (length types.now) 0 }
 {
+    // Stays: a local array beside the entries, since a scan of form may not fail for want of memory.
     let mut sizes = [0u32; 512];
     for (i, e) in types.iter().enumerate() {
         let place = i as u32;

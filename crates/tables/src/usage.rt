@@ -33,6 +33,7 @@ impl Terms<'_> {
     fn uses(&self) -> [u16; 1024]
         ensures { (k : ℕ) → slice_index result k ≡ uses self.now.entries.now k }
     {
+        // Stays: a local array beside the entries, since a scan of form may not fail for want of memory.
         let mut counts = [0u16; 1024];
         for (i, e) in self.entries.iter().enumerate() {
             count(&mut counts, *e, i);
