@@ -4,6 +4,7 @@
 ghost use Rattle.check_readings.specs.Bounds.{CheckReadings};
 
 /// The worked readings, by computation.
+#[tactic(auto, using(crate::proofs::Reading::check_readings_lem))]
 pub fn check_readings_hold()
     ensures { CheckReadings }
 {}

@@ -77,11 +77,13 @@ pub fn check_necessary<S: Scheme>(
 }
 
 /// A check answers by the job alone, whatever stands in the table of types from place `counts.types` up.
+#[tactic(auto, using(crate::proofs::Repeating::answers_by_job_lem))]
 pub fn answers_by_job()
     ensures { AnswersByJob }
 {}
 
 /// A check after a check, of either system, answers what it would have answered before.
+#[tactic(auto, using(crate::proofs::Repeating::answers_again_lem))]
 pub fn answers_again()
     ensures { AnswersAgain }
 {}
