@@ -4,6 +4,7 @@ use crate::order::Order;
 use crate::refusal::{show_place, show_refused};
 use blocks::block::Block;
 use checks::check::{check_necessary, check_sufficient};
+use checks::clearance::bound_of;
 use checks::fault::CheckFault;
 use runs::run::{Look, Run, rehearse};
 use std::fmt;
@@ -78,9 +79,7 @@ impl Job<'_> {
         terms: &[Entry],
         f: &mut fmt::Formatter<W>,
     ) -> fmt::Result {
-        let sufficient = check_sufficient(self.scheme, self.counts, types, terms).map(
-            |clearance| clearance.discard(),
-        );
+        let sufficient = bound_of(check_sufficient(self.scheme, self.counts, types, terms));
         show_check("sufficient", sufficient, f)?;
         let necessary = check_necessary(self.scheme, self.counts, types, terms);
         show_check("necessary", necessary, f)
