@@ -67,6 +67,7 @@ fn show_image<W: fmt::Write>(
     image: &[u8],
     f: &mut fmt::Formatter<W>,
 ) -> fmt::Result {
+    // Stays: tables of fixed size, since printing cannot tell that memory ran out.
     let mut types = [Entry::default(); 1536];
     let mut terms = [Entry::default(); 1024];
     match read(scheme, image, &mut types, &mut terms) {

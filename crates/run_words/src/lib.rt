@@ -35,6 +35,7 @@ fn show_job<W: fmt::Write>(
     if places > 16384 {
         return writeln!(f, "refused: more than 16384 term places");
     }
+    // Stays: tables of fixed size, since printing cannot tell that memory ran out.
     let mut types = [Entry::default(); 1536];
     let mut table = [Entry::default(); 16384];
     let terms = &mut table[..places];

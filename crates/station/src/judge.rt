@@ -43,6 +43,7 @@ fn check_both<S: Scheme>(
 fn read_and_check<S: Scheme>(scheme: &S, image: &[u8]) -> Verdict
     ensures { result ≡ image_verdict (S.meaning scheme.now) image.now }
 {
+    // Stays: tables of fixed size, since a verdict may not fail for want of memory.
     let mut types = [Entry::default(); 1536];
     let mut terms = [Entry::default(); 1024];
     match read(scheme, image, &mut types, &mut terms) {
