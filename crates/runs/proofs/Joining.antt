@@ -292,7 +292,7 @@ parts_sum m x es j k h =
     record { first = f; second = q.0; terms = q.1; run = q.2 }
 
 pub in_parts : (m : Meaning) (x y : Run) (es fs : List Entry) (n : ℕ) → y ≡ left_run m x es n → fs ≡ left_terms m x es n → InParts m x y es fs n
-in_parts m x y es fs n r t h j k e =
+in_parts m x y es _ n r t h j k e =
     let P = parts_sum m x es j k (ap (refusal m x es) e ∙ h) in
     record {
       first = P.first;
