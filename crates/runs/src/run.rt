@@ -201,6 +201,7 @@ impl Run {
         ensures meaning { Meant (S.meaning scheme.now) self.old self.new terms.old terms.new budget result }
         ensures parts { InParts (S.meaning scheme.now) self.old self.new terms.old terms.new budget }
     {
+        // Stays: a local array beside the terms, since an advance may not fail for want of memory.
         let mut reach = [0u16; 16384];
         self.ask(scheme, terms, budget, &mut reach)?;
         let made = self.go(scheme, terms, &mut reach, budget as u32);
