@@ -19,6 +19,7 @@ use tables::entry::{Counts, Entry};
 #[derive(Clone, Copy)]
 pub struct Spoken<'a>(pub &'a [u8]);
 
+// Stays: whole tables with the counts beside them, as a reading leaves them. Slices would want a proof here that the counts fit.
 // A job whose entries stand in the first places of two tables.
 #[derive(Clone, Copy)]
 struct Job<'a> {

@@ -18,7 +18,7 @@ impl Scheme for Block {
       | Ranked p ↦ pair_lawful _ _ (hierarchy_lawful p.first.count p.first.rows) (ladder_lawful p.second.top)
     ] };
 
-    // Stays: a match for each question. No method may hand out a `dyn Scheme`, and one closure cannot be given four types.
+    // Stays: a match for each question. No form is plainer: a method may not hand out a `dyn Scheme`, and one closure cannot be given four types.
     fn sound(&self) -> bool {
         match self {
             Block::Mask(s) => s.sound(),

@@ -41,7 +41,7 @@ fn read_hierarchy(size: u8, bytes: &[u8]) -> Result<(Hierarchy, &[u8]), BlockFau
     Ok((hierarchy, &bytes[8 * rows_after(size)..]))
 }
 
-// A hierarchy's rows, then a top rank.
+// The top rank that follows a hierarchy.
 fn read_ranked(first: Hierarchy, bytes: &[u8]) -> Result<(Block, &[u8]), BlockFault>
     ensures { told result (λ p. record { block = p.0; rest = p.1.now }) ≡ ranked first bytes.now }
 {

@@ -77,6 +77,7 @@ impl<S: Scheme> Types<'_, S> {
         }
     }
 
+    // Stays: that a number is that of a type found so far is said of each number. A type of such numbers would outlive what it is true of.
     /// Is type `a` below type `b`?
     pub(crate) fn below(&self, a: u32, b: u32) -> bool
         requires left { a < self.now.used }

@@ -9,7 +9,7 @@ ghost use Rattle.checks.specs.Systems.{meant};
 use crate::system::System;
 use crate::table::Types;
 use roles::scheme::Scheme;
-use tables::entry::Entry;
+use tables::entry::{Entry, entry_of};
 use tables::operand::{
     ABSTRACTION, APPLICATION, BASE, CHECK, COMPUTATION, FIX, FUNCTION, GUARD, GUARDED, LET, RAISE,
     UNIT, VALUE, VARIABLE, ask,
@@ -32,48 +32,28 @@ pub(crate) fn claim(system: System, e: Entry) -> u32
 fn base(kind: u32) -> Entry
     ensures { result ≡ base_type kind }
 {
-    Entry {
-        tag: BASE,
-        first: kind,
-        second: 0,
-        third: 0,
-    }
+    entry_of(BASE, kind, 0, 0)
 }
 
 // The entry of a function type.
 fn function(from: u32, to: u32) -> Entry
     ensures { result ≡ function_type from to }
 {
-    Entry {
-        tag: FUNCTION,
-        first: from,
-        second: to,
-        third: 0,
-    }
+    entry_of(FUNCTION, from, to, 0)
 }
 
 // The entry of a guarded type.
 fn guarded(role: u64, inner: u32) -> Entry
     ensures { result ≡ guarded_type role inner }
 {
-    Entry {
-        tag: GUARDED,
-        first: inner,
-        second: 0,
-        third: role,
-    }
+    entry_of(GUARDED, inner, 0, role)
 }
 
 // The entry of a computation type.
 fn computation(role: u64, inner: u32) -> Entry
     ensures { result ≡ computation_type role inner }
 {
-    Entry {
-        tag: COMPUTATION,
-        first: inner,
-        second: 0,
-        third: role,
-    }
+    entry_of(COMPUTATION, inner, 0, role)
 }
 
 // The rule of a check.

@@ -78,6 +78,7 @@ fn lookup(binders: &[u32], depth: u32, e: Entry) -> u32
     }
 }
 
+// Stays: this and `binder` ask about one operand by the same four values. A type for them would be made for these two calls alone.
 // Is the operand walked? The second of a let only after a computation.
 fn enters(types: &[Entry], e: Entry, stage: u8, last: u32) -> bool
     requires { e.tag ≡ 24 → stage ≡ 1 → last < length types.now }

@@ -25,6 +25,7 @@ impl Hierarchy {
         !holds(code, j) || covers(code, self.rows[j as usize])
     }
 
+    // Stays: that there are at most 64 roles is asked of methods and not of the type, since a hierarchy of more is a value too, an unsound one.
     // Does the code hold the whole row of each of its bits?
     fn is_closed(&self, code: u64) -> bool
         requires { self.now.count ≤ 64 }

@@ -2,7 +2,7 @@
 use jobs::reader::image_length;
 use jobs::writer::write;
 use masks::Mask;
-use run_words::Spoken;
+use run_words::{Pace, Spoken};
 use std::alloc::{AllocError, Global};
 use std::test::Fail;
 use tables::entry::{Counts, Entry, entry_of as e};
@@ -42,7 +42,10 @@ fn lines(
     input.extend_from_slice(&role.to_le_bytes())?;
     input.extend_from_slice(&budget.to_le_bytes())?;
     input.extend_from_slice(&places.to_le_bytes())?;
-    let rehearsal = Spoken(input.as_slice());
+    let rehearsal = Spoken {
+        input: input.as_slice(),
+        pace: Pace::EachStep,
+    };
     format!(in heap; "{rehearsal}")
 }
 

@@ -8,6 +8,7 @@ use std::test::Fail;
 // A hierarchy of two roles and a ladder with top rank 5, as a block.
 const RANKED: [u8; 19] = [3, 2, 1, 0, 0, 0, 0, 0, 0, 0, 3, 0, 0, 0, 0, 0, 0, 0, 5];
 
+// Stays: 0 for no refusal, as a verdict tells it.
 // The number of the refusal, 0 if a block is read.
 fn refusal(bytes: &[u8]) -> u8 {
     match read_block(bytes) {

@@ -5,6 +5,7 @@ use roles::fault::Fault;
 use std::test::Fail;
 use wording::Spoken;
 
+// Stays: a number for each answer, so that a case is one line and keeps its value.
 // 100 may start, 101 may not start, else the number of the refusal.
 fn outcome(input: &[u8]) -> u8 {
     match report(input).decision {

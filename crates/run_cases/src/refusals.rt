@@ -6,6 +6,7 @@ use runs::fault::RunFault;
 use runs::run::Progress;
 use tables::entry::Entry;
 
+// Stays: numbers here and in the other cases of runs, so that a case is one line and keeps its value.
 // The number of a refusal, or 0.
 fn number(told: Result<Progress, RunFault>) -> u8 {
     match told {

@@ -1,4 +1,5 @@
 //! A job that was read: its bounds and its rehearsal.
+use crate::Pace;
 use crate::entry_words::InWords;
 use crate::order::Order;
 use crate::refusal::{show_place, show_refused};
@@ -8,13 +9,6 @@ use checks::fault::CheckFault;
 use runs::run::{Look, Run, rehearse};
 use std::fmt;
 use tables::entry::{Counts, Entry};
-
-/// How a run is made and told: step by step, or by one advance.
-#[derive(Clone, Copy)]
-pub(crate) enum Pace {
-    EachStep,
-    AtOnce,
-}
 
 /// A job that was read, its scheme, and what is asked for.
 #[derive(Clone, Copy)]
@@ -78,7 +72,7 @@ impl Job<'_> {
         terms: &[Entry],
         f: &mut fmt::Formatter<W>,
     ) -> fmt::Result {
-        // Stays: `bound_of` would do the same. Here a clearance is in hand, which the edits in `refused/` copy, forge and lose.
+        // Stays: `bound_of` is no plainer than this line, which has the clearance in hand.
         let sufficient = check_sufficient(self.scheme, self.counts, types, terms).map(
             |clearance| clearance.discard(),
         );
@@ -147,6 +141,7 @@ impl Job<'_> {
         match rehearse(self.scheme, self.counts, types, terms, self.order.role) {
             Err(fault) => show_place(&fault, f),
             Ok(mut run) => {
+                // Stays: two ways to tell a run, by name. A closure for each would have to be handed down through three calls.
                 let shown = match self.pace {
                     Pace::EachStep => self.show_walk(&mut run, terms, f),
                     Pace::AtOnce => self.show_advance(&mut run, terms, f),

@@ -6,7 +6,7 @@ mod job;
 mod order;
 mod refusal;
 
-use crate::job::{Job, Pace};
+use crate::job::Job;
 use crate::order::{Order, split};
 use crate::refusal::{show_number, show_place};
 use blocks::block::Block;
@@ -15,13 +15,21 @@ use jobs::reader::read;
 use std::fmt;
 use tables::entry::{Counts, Entry};
 
+/// How a run is made and told.
+#[derive(Clone, Copy, PartialEq, Eq, Debug)]
+pub enum Pace {
+    /// Step by step.
+    EachStep,
+    /// By one advance of the whole budget.
+    AtOnce,
+}
+
 /// A scheme block, an image, a role, a budget and a number of term places, to be printed as the rehearsal that they ask for.
 #[derive(Clone, Copy)]
-pub struct Spoken<'a>(pub &'a [u8]);
-
-/// The same, to be printed as one advance by the whole budget.
-#[derive(Clone, Copy)]
-pub struct AtOnce<'a>(pub &'a [u8]);
+pub struct Spoken<'a> {
+    pub input: &'a [u8],
+    pub pace: Pace,
+}
 
 // The job of an image, and its rehearsal.
 fn show_job<W: fmt::Write>(
@@ -75,12 +83,6 @@ fn show_input<W: fmt::Write>(input: &[u8], pace: Pace, f: &mut fmt::Formatter<W>
 
 impl fmt::Display for Spoken<'_> {
     fn fmt<W: fmt::Write>(&self, f: &mut fmt::Formatter<W>) -> fmt::Result {
-        show_input(self.0, Pace::EachStep, f)
-    }
-}
-
-impl fmt::Display for AtOnce<'_> {
-    fn fmt<W: fmt::Write>(&self, f: &mut fmt::Formatter<W>) -> fmt::Result {
-        show_input(self.0, Pace::AtOnce, f)
+        show_input(self.input, self.pace, f)
     }
 }

@@ -10,7 +10,7 @@ use machine::condition::Condition;
 use roles::scheme::Scheme;
 use tables::entry::Entry;
 use tables::operand::{
-    ABSTRACTION, APPLICATION, CHECK, FIX, GUARD, LET, RAISE, RESTRICT, UNIT, VALUE, VARIABLE,
+    ABSTRACTION, APPLICATION, CHECK, FIX, GUARD, LET, RAISE, RESTRICT, UNIT, VALUE, VARIABLE, ask,
 };
 
 /// What a step does where it happens: puts an entry for a body's variable, makes a unit, or shares.
@@ -40,15 +40,12 @@ fn at_once(act: Act) -> Result<Redex, Condition>
     Ok(Redex { act, path: 0 })
 }
 
-// A body for its variable, if the value `f` has the tag that the form asks for.
+// A body for its variable, if the form fits, else a shape fault.
 fn placing(fits: bool, body: u32, with: u32, at: u32) -> Result<Redex, Condition>
     ensures { result ≡ (if fits then at_once (Act.Place body with) else Err (Condition.ShapeFault at)) }
 {
-    if fits {
-        at_once(Act::Place { body, with })
-    } else {
-        Err(Condition::ShapeFault { entry: at })
-    }
+    ask(fits, Condition::ShapeFault { entry: at })?;
+    at_once(Act::Place { body, with })
 }
 
 // A check of the value `f`.

@@ -3,6 +3,7 @@ ghost use Rattle.std.specs.Prelude.{◌+◌, ◌^◌, ◌<◌, length};
 
 use tables::entry::Entry;
 
+// Stays: the places are lent whole and filled one by one, so how many are filled stands beside them.
 /// The free places of a table, behind `base` used ones; so many of them are filled.
 #[derive(Drop)]
 pub(crate) struct Room<'a> {

@@ -159,7 +159,7 @@ impl Run {
         }
     }
 
-    // At most `budget` turns, and how many were made.
+    // At most `budget` turns, and how many were made. If the budget is spent, the condition tells whether the run could go on.
     fn go<S: Scheme>(
         &mut self,
         scheme: &S,

@@ -22,6 +22,7 @@ pub(crate) struct Moved {
 }
 
 impl Used<'_> {
+    // Stays: that an act fits is a fact of the act and of the used entries, and an act is made before it is taken apart.
     // Does what an act says, into the room, and tells where what was made stands.
     fn make_act(self, room: &mut Room, act: Act) -> u32
         requires form { ActFits self.terms.now act }
@@ -120,6 +121,7 @@ fn turn_at<S: Scheme>(
     Ok(old.make(free, current, redex))
 }
 
+// Stays: a run is lent terms anew at each advance, so what is known of it and of them is a named fact, `Live`, and not part of a type.
 /// One turn, after which the reaches of the new entries are known too.
 pub(crate) fn turn_live<S: Scheme>(
     scheme: &S,

@@ -41,6 +41,7 @@ pub fn room(counts: Counts, types: usize, terms: usize) -> Result<(), FormFault>
     ask(fits, FormFault::Room { types, terms })
 }
 
+// Stays: how long a slice is stands in the clauses of the few functions that ask. A type for each of the two lengths would be longer.
 // The questions of tag, operands and role to each term, lowest first, in a job of `t` types.
 fn ask_terms<S: Scheme>(scheme: &S, t: u32, terms: &[Entry]) -> Result<(), FormFault>
     requires types_few { t ≤ 512 }

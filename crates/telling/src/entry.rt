@@ -28,6 +28,7 @@ pub(crate) fn tag_name(tag: u8) -> &'static str {
     }
 }
 
+// Stays: an image that was refused may lack any part, so each is asked for. `jobs` reads where all are known to be there.
 // The bytes of a part of the image, if they are there.
 fn part<const N: usize>(image: &[u8], at: usize) -> Option<[u8; N]> {
     image.get(at..)?.first_chunk::<N>().copied()

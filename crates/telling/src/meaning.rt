@@ -5,6 +5,7 @@ use station::refusal::Refusal;
 use tables::fault::FormFault;
 use walks::fault::TypingFault;
 
+// Stays: the words of this program alone. The faults' own words, by `Display`, are those of `listing`.
 /// What a refusal means.
 pub(crate) fn meaning(refusal: Refusal) -> &'static str {
     match refusal {
