@@ -7,6 +7,7 @@ use crate::room::Room;
 use tables::entry::Entry;
 use tables::operand::{ABSTRACTION, APPLICATION, GUARD, LET, RAISE, RESTRICT, binds, named_terms};
 
+// Stays: one line that stands in `tables` and `checks` too, over a depth of another width and another bound. A shared one would take both.
 // The depth within the term of that number that an entry names.
 fn depth_within(tag: u8, number: u8, depth: u32) -> u32
     requires { depth + 1 < 2 ^ 32 }
