@@ -137,11 +137,11 @@ module _ (m n : Meaning) (lm : Lawful m) (ln : Lawful n) where
     residuation = λ b a r x j e i. iff (enough b a r x j e i) (needed b a r x j e i);
   }
 
-  -- two roles are packed without loss
   -- the second's part leaves a bit to the first's
   pub narrow : pair_sound m n ≡ true → (w : ℕ) → w ≡ n.width → w < 64
   narrow s w e = let both = room s in let least = lm.wide.0 in omega arith
 
+  -- two roles are packed without loss
   pub placed : pair_sound m n ≡ true → (w h l : ℕ) → w ≡ n.width → m.role h ≡ true → n.role l ≡ true → (w < 64) × (l < 2 ^ w) × (h * 2 ^ w + l < 2 ^ 64)
   placed s w h l e p q =
       let first = lm.role_fits h p in

@@ -1,3 +1,4 @@
 pub mod Kind
 pub mod Laws
+pub mod Cuts
 pub mod Parts

@@ -4,9 +4,13 @@
 ghost use Rattle.std.specs.Prelude.{◌≡◌, true, false};
 ghost use Rattle.std.specs.Option.{MatchOption};
 ghost use Rattle.pairs.specs.Kind.{packed, pair, pair_code, pair_sound};
+ghost use Rattle.pairs.specs.Cuts.{IsCut};
 ghost use Rattle.pairs.specs.Parts.{AreParts};
 ghost use Rattle.pairs.specs.Laws.{pair_lawful};
 
+mod cut;
+
+use crate::cut::Cut;
 use roles::scheme::Scheme;
 use std::fmt;
 
@@ -25,36 +29,46 @@ struct Parts {
 }
 
 impl<A: Scheme, B: Scheme> Pair<A, B> {
-    // The parts of a code, the second's in the low bits; none where the pair is unsound.
-    fn split(&self, code: u64) -> Option<Parts>
-        ensures { MatchOption result (pair_sound (A.Scheme.meaning self.now.first) (B.Scheme.meaning self.now.second) ≡ false) (AreParts (A.Scheme.meaning self.now.first) (B.Scheme.meaning self.now.second) code) }
+    // Where codes are cut; nowhere if the pair is unsound. Soundness is dear, so a question asks it once for all its codes.
+    fn cut(&self) -> Option<Cut>
+        ensures { MatchOption result (pair_sound (A.Scheme.meaning self.now.first) (B.Scheme.meaning self.now.second) ≡ false) (IsCut (A.Scheme.meaning self.now.first) (B.Scheme.meaning self.now.second)) }
     {
         if !self.sound() {
             return None;
         }
-        let w = self.second.width();
-        Some(Parts {
-            first: code >> w,
-            second: code & ((1 << w) - 1),
+        Some(Cut {
+            width: self.second.width(),
         })
     }
 
+    // The parts of a code, the second's in the low bits.
+    fn split(&self, cut: Cut, code: u64) -> Parts
+        requires { IsCut (A.Scheme.meaning self.now.first) (B.Scheme.meaning self.now.second) cut }
+        ensures { AreParts (A.Scheme.meaning self.now.first) (B.Scheme.meaning self.now.second) code result }
+    {
+        Parts {
+            first: code >> cut.width,
+            second: code & ((1 << cut.width) - 1),
+        }
+    }
+
     // One code of two roles.
-    fn pack(&self, x: u64, y: u64) -> u64
-        requires sound { pair_sound (A.Scheme.meaning self.now.first) (B.Scheme.meaning self.now.second) ≡ true }
+    fn pack(&self, cut: Cut, x: u64, y: u64) -> u64
+        requires cut { IsCut (A.Scheme.meaning self.now.first) (B.Scheme.meaning self.now.second) cut }
         requires first { (A.Scheme.meaning self.now.first).role x ≡ true }
         requires second { (B.Scheme.meaning self.now.second).role y ≡ true }
         ensures { result ≡ packed (B.Scheme.meaning self.now.second).width x y }
     {
-        x * (1 << self.second.width()) + y
+        x * (1 << cut.width) + y
     }
 
     /// The code of a role of each part; none where the pair is unsound or a part is no role.
     pub fn code(&self, x: u64, y: u64) -> Option<u64>
         ensures { result ≡ pair_code (A.Scheme.meaning self.now.first) (B.Scheme.meaning self.now.second) x y }
     {
-        let roles = self.sound() && self.first.is_role(x) && self.second.is_role(y);
-        roles.then(|| self.pack(x, y))
+        let cut = self.cut()?;
+        let roles = self.first.is_role(x) && self.second.is_role(y);
+        roles.then(|| self.pack(cut, x, y))
     }
 }
 
@@ -76,48 +90,54 @@ impl<A: Scheme, B: Scheme> Scheme for Pair<A, B> {
     }
 
     fn is_role(&self, code: u64) -> bool {
-        match self.split(code) {
-            Some(c) => self.first.is_role(c.first) && self.second.is_role(c.second),
+        match self.cut() {
+            Some(cut) => {
+                let c = self.split(cut, code);
+                self.first.is_role(c.first) && self.second.is_role(c.second)
+            }
             None => false,
         }
     }
 
     fn dominates(&self, a: u64, b: u64) -> bool {
-        match (self.split(a), self.split(b)) {
-            (Some(a), Some(b)) => {
+        match self.cut() {
+            Some(cut) => {
+                let (a, b) = (self.split(cut, a), self.split(cut, b));
                 self.first.dominates(a.first, b.first) && self.second.dominates(a.second, b.second)
             }
-            _ => false,
+            None => false,
         }
     }
 
     // Stays: join, meet and remainder differ in the question that they put to both parts. One function of two closures, one for each type of part, would be longer.
     fn join(&self, a: u64, b: u64) -> Option<u64> {
-        let (a, b) = (self.split(a)?, self.split(b)?);
+        let cut = self.cut()?;
+        let (a, b) = (self.split(cut, a), self.split(cut, b));
         let x = self.first.join(a.first, b.first)?;
         let y = self.second.join(a.second, b.second)?;
-        Some(self.pack(x, y))
+        Some(self.pack(cut, x, y))
     }
 
     fn meet(&self, a: u64, b: u64) -> Option<u64> {
-        let (a, b) = (self.split(a)?, self.split(b)?);
+        let cut = self.cut()?;
+        let (a, b) = (self.split(cut, a), self.split(cut, b));
         let x = self.first.meet(a.first, b.first)?;
         let y = self.second.meet(a.second, b.second)?;
-        Some(self.pack(x, y))
+        Some(self.pack(cut, x, y))
     }
 
     fn remainder(&self, b: u64, a: u64) -> Option<u64> {
-        let (b, a) = (self.split(b)?, self.split(a)?);
+        let cut = self.cut()?;
+        let (b, a) = (self.split(cut, b), self.split(cut, a));
         let x = self.first.remainder(b.first, a.first)?;
         let y = self.second.remainder(b.second, a.second)?;
-        Some(self.pack(x, y))
+        Some(self.pack(cut, x, y))
     }
 
     fn bottom(&self) -> u64 {
-        if self.sound() {
-            self.pack(self.first.bottom(), self.second.bottom())
-        } else {
-            0
+        match self.cut() {
+            Some(cut) => self.pack(cut, self.first.bottom(), self.second.bottom()),
+            None => 0,
         }
     }
 }
