@@ -146,18 +146,18 @@ arity_two (leafs h) a b = absurd (a refl)
 arity_two (ones h) a b = absurd (b refl)
 arity_two (twos h) a b = refl
 
-module _ (P : Putting) (d i : ℕ) (C : Copiable P.used.terms.now d i) where
+module _ (P : Putting) (d i : ℕ) (C : Copiable P.used.now.terms.now d i) where
   abbrev us : List Entry
-  us = P.used.terms.now
+  us = P.used.now.terms.now
 
   abbrev rs : List ℕ
-  rs = P.used.reach.now
+  rs = P.used.now.reach.now
 
   abbrev w : ℕ
   w = P.with
 
   abbrev G : Ground us
-  G = P.used.ground
+  G = P.used.now.ground
 
   abbrev e : Entry
   e = get_or us i no_entry
@@ -172,11 +172,11 @@ module _ (P : Putting) (d i : ℕ) (C : Copiable P.used.terms.now d i) where
   arity_e = arity_is e tagged
 
   pub free_no : get_or rs i 0 ≤ d → free d (tree us i) ≡ false
-  free_no h = let k = P.used.known i C.here in free_is d (tree us i) C.scoped ∙ le-ltb d (reach_of (tree us i)) (omega arith)
+  free_no h = let k = P.used.now.known i C.here in free_is d (tree us i) C.scoped ∙ le-ltb d (reach_of (tree us i)) (omega arith)
 
   free_root : d < get_or rs i 0 → free d (rooted i (tree us e.first) (tree us e.second) (head e)) ≡ true
   free_root h =
-      let k = P.used.known i C.here in
+      let k = P.used.now.known i C.here in
       sym (ap (free d) root) ∙ (free_is d (tree us i) C.scoped ∙ lt-ltb d (reach_of (tree us i)) (omega arith))
 
   closed_root : closed (suc d) (rooted i (tree us e.first) (tree us e.second) (head e)) ≡ true

@@ -1,7 +1,6 @@
 -- A loop of turns on a run. Assumes nothing.
-use Rattle.std.proofs.Common.{◌≡◌, ℕ, suc, ◌+◌, ◌-◌, ◌<◌, ◌≤◌, Bool, true, false, cond, List, length, take, drop, Ok, Err, Result, is_ok, unwrap_or, sym, refl, ap, ◌∙◌, subst, true≢false, arith, drop-drop}
+use Rattle.std.proofs.Common.{◌≡◌, ℕ, suc, ◌+◌, ◌-◌, ◌<◌, ◌≤◌, Bool, true, false, cond, List, length, take, drop, Ok, Err, Result, is_ok, sym, refl, ap, ◌∙◌, subst, true≢false, arith, drop-drop}
 use mathlib.Core.Bool.{false≢true}
-use Rattle.std.specs.Result.{result_err}
 use Rattle.roles.specs.Meaning.{Meaning}
 use Rattle.tables.specs.declared.entry.Entry.{Entry}
 use Rattle.machine.specs.Labelled.{tree}
@@ -42,10 +41,6 @@ not_moved m r es fs u c Finished T = T.1
 not_moved m r es fs u c (RoleFault i a x) T = T.1
 not_moved m r es fs u c (ShapeFault i) T = T.1
 not_moved m r es fs u c TableFull T = T.4
-
-pub idle_is : (F : Result Redex Condition) → unwrap_or (result_err F) Going ≡ idle_of F
-idle_is (Ok x) = refl
-idle_is (Err c) = refl
 
 module _ (m : Meaning) (b i : ℕ) (x y : Run) (es fs : List Entry) (rs : List ℕ) (K : Keeps m b x y es fs rs i) where
   -- the advance from here, with one turn to come

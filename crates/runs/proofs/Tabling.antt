@@ -10,12 +10,12 @@ use Rattle.runs.specs.Copy.{copied, fresh, Wrote, Copiable, names, first_within,
 use Rattle.runs.proofs.Laying.{still, joined, long, over, over_is}
 use Rattle.runs.proofs.Copying.{shared, leafy, operands_two, single, double}
 
-module _ (P : Putting) (d i : ℕ) (C : Copiable P.used.terms.now d i) (x : Room) (room : x.filled + length (copied P.used.terms.now (x.base + x.filled) d P.with i).entries ≤ length x.free.now) where
+module _ (P : Putting) (d i : ℕ) (C : Copiable P.used.now.terms.now d i) (x : Room) (room : x.filled + length (copied P.used.now.terms.now (x.base + x.filled) d P.with i).entries ≤ length x.free.now) where
   abbrev us : List Entry
-  us = P.used.terms.now
+  us = P.used.now.terms.now
 
   abbrev rs : List ℕ
-  rs = P.used.reach.now
+  rs = P.used.now.reach.now
 
   abbrev w : ℕ
   w = P.with

@@ -26,12 +26,12 @@ length_places b (new_two h p q) =
 pub length_copied : (us : List Entry) (b d w i : ℕ) → length (copied us b d w i).entries ≡ count_of us d w i
 length_copied us b d w i = length_places b _
 
-module _ (P : Putting) (d i : ℕ) (C : Copiable P.used.terms.now d i) where
+module _ (P : Putting) (d i : ℕ) (C : Copiable P.used.now.terms.now d i) where
   abbrev us : List Entry
-  us = P.used.terms.now
+  us = P.used.now.terms.now
 
   abbrev rs : List ℕ
-  rs = P.used.reach.now
+  rs = P.used.now.reach.now
 
   abbrev w : ℕ
   w = P.with

@@ -50,19 +50,19 @@ pub(crate) fn renew(e: Entry, first: u32, other: u32) -> Entry
 /// What a copy puts in for a variable: one of the used entries.
 #[derive(Clone, Copy)]
 pub(crate) struct Putting<'a> {
-    pub used: Used<'a>,
+    pub used: &'a Used<'a>,
     pub with: u32,
-    ghost there: { with < length used.terms.now },
+    ghost there: { with < length used.now.terms.now },
 }
 
 impl Putting<'_> {
     /// Copies entry `at` into the room, with what is put in for the variable at `depth`, and tells where the copy stands.
     /// What does not contain the variable is shared.
     pub(crate) fn copy(self, room: &mut Room, at: u32, depth: u32) -> u32
-        requires form { Copiable self.used.terms.now depth at }
+        requires form { Copiable self.used.now.terms.now depth at }
         requires fits { depth + at + 1 < 2 ^ 32 }
-        requires room { room.old.filled + length (copied self.used.terms.now (room.old.base + room.old.filled) depth self.with at).entries ≤ length room.old.free.now }
-        ensures { Wrote room.old room.new (copied self.entry.used.terms.now (room.old.base + room.old.filled) depth self.entry.with at) result }
+        requires room { room.old.filled + length (copied self.used.now.terms.now (room.old.base + room.old.filled) depth self.with at).entries ≤ length room.old.free.now }
+        ensures { Wrote room.old room.new (copied self.entry.used.now.terms.now (room.old.base + room.old.filled) depth self.entry.with at) result }
     {
         if self.used.reach[at as usize] as u32 <= depth {
             return at;
@@ -82,9 +82,9 @@ impl Putting<'_> {
 
     /// How many places the copy takes, or `limit` if it takes more: the count stops there.
     pub(crate) fn count(self, at: u32, depth: u32, limit: u32) -> u32
-        requires form { Copiable self.used.terms.now depth at }
+        requires form { Copiable self.used.now.terms.now depth at }
         requires fits { depth + at + 1 < 2 ^ 32 }
-        ensures { result ≡ min limit (count_of self.entry.used.terms.now depth self.entry.with at) }
+        ensures { result ≡ min limit (count_of self.entry.used.now.terms.now depth self.entry.with at) }
     {
         if limit == 0 {
             return 0;

@@ -4,6 +4,7 @@ ghost use Rattle.machine.specs.Labelled.{closed, tree};
 ghost use Rattle.machine.specs.Plans.{step};
 ghost use Rattle.runs.specs.Find.{FoundFits, at_once, found_here, is_ready, met_of, path_of, role_within, value_tag};
 ghost use Rattle.runs.specs.Reach.{no_entry};
+ghost use Rattle.runs.specs.Table.{idle_of};
 
 use crate::reach::Used;
 use machine::condition::Condition;
@@ -93,16 +94,16 @@ impl Used<'_> {
     /// The next step of entry `at` under a context role: inward through first operands until one is a value.
     /// Where there is none, the condition tells why: a value, or a fault.
     pub(crate) fn find<S: Scheme>(
-        self,
+        &self,
         scheme: &S,
         context: u64,
         at: u32,
     ) -> Result<Redex, Condition>
-        requires { (at < length self.terms.now) × (closed 0 (tree self.terms.now at) ≡ true) }
-        ensures met { step (S.meaning scheme.now) context (tree self.entry.terms.now at) ≡ met_of self.entry.terms.now at result }
-        ensures rests { is_ready result ≡ true → value_tag (slice_index_or self.entry.terms.now at no_entry).tag ≡ true }
+        requires { (at < length self.now.terms.now) × (closed 0 (tree self.now.terms.now at) ≡ true) }
+        ensures met { step (S.meaning scheme.now) context (tree self.now.terms.now at) ≡ met_of self.now.terms.now at result }
+        ensures rests { is_ready result ≡ true → value_tag (slice_index_or self.now.terms.now at no_entry).tag ≡ true }
         ensures short { path_of result ≤ at }
-        ensures fits { FoundFits self.entry.terms.now at result }
+        ensures fits { FoundFits self.now.terms.now at result }
     {
         let e = self.terms[at as usize];
         if is_value(e.tag) {
@@ -124,4 +125,11 @@ impl Used<'_> {
             path: redex.path + 1,
         })
     }
+}
+
+/// The condition where no budget is left.
+pub(crate) fn idle_by(found: Result<Redex, Condition>) -> Condition
+    ensures { result ≡ idle_of found }
+{
+    found.err().unwrap_or(Condition::Going)
 }

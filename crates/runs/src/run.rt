@@ -8,6 +8,7 @@ ghost use Rattle.runs.specs.Table.{Live};
 ghost use Rattle.runs.specs.Went.{Went};
 
 use crate::fault::{RunFault, StartFault};
+use crate::find::idle_by;
 use crate::reach::Used;
 use crate::turn::{Moved, turn_live};
 use crate::usable::usable;
@@ -181,10 +182,7 @@ impl Run {
             terms: &terms[..self.used as usize],
             reach,
         };
-        self.condition = used
-            .find(scheme, self.role, self.current)
-            .err()
-            .unwrap_or(Condition::Going);
+        self.condition = idle_by(used.find(scheme, self.role, self.current));
         budget
     }
 

@@ -24,12 +24,12 @@ pub(crate) struct Moved {
 impl Used<'_> {
     // Stays: that an act fits is a fact of the act and of the used entries, and an act is made before it is taken apart.
     // Does what an act says, into the room, and tells where what was made stands.
-    fn make_act(self, room: &mut Room, act: Act) -> u32
-        requires form { ActFits self.terms.now act }
-        requires room { room.old.filled + length (write (room.old.base + room.old.filled) (act_plan self.terms.now act)).entries ≤ length room.old.free.now }
-        ensures { Wrote room.old room.new (write (room.old.base + room.old.filled) (act_plan self.entry.terms.now act)) result }
+    fn make_act(&self, room: &mut Room, act: &Act) -> u32
+        requires form { ActFits self.now.terms.now act.now }
+        requires room { room.old.filled + length (write (room.old.base + room.old.filled) (act_plan self.now.terms.now act.now)).entries ≤ length room.old.free.now }
+        ensures { Wrote room.old room.new (write (room.old.base + room.old.filled) (act_plan self.now.terms.now act.now)) result }
     {
-        match act {
+        match *act {
             Act::Place { body, with } => Putting { used: self, with }.copy(room, body, 0),
             Act::Unit { of } => room.append(Entry {
                 tag: UNIT,
@@ -42,10 +42,10 @@ impl Used<'_> {
     }
 
     // Does the act `path` entries inward from `at`, and then writes those entries anew, from inside out.
-    fn make_on(self, room: &mut Room, at: u32, act: Act, path: u32) -> u32
-        requires form { PathFits self.terms.now path at act }
-        requires room { room.old.filled + length (write (room.old.base + room.old.filled) (along self.terms.now path at act)).entries ≤ length room.old.free.now }
-        ensures { Wrote room.old room.new (write (room.old.base + room.old.filled) (along self.entry.terms.now path at act)) result }
+    fn make_on(&self, room: &mut Room, at: u32, act: &Act, path: u32) -> u32
+        requires form { PathFits self.now.terms.now path at act.now }
+        requires room { room.old.filled + length (write (room.old.base + room.old.filled) (along self.now.terms.now path at act.now)).entries ≤ length room.old.free.now }
+        ensures { Wrote room.old room.new (write (room.old.base + room.old.filled) (along self.now.terms.now path at act.now)) result }
     {
         if path == 0 {
             return self.make_act(room, act);
@@ -56,13 +56,13 @@ impl Used<'_> {
     }
 
     // Makes the step that was found, into the free places.
-    fn make(self, free: &mut [Entry], at: u32, redex: Redex) -> Moved
-        requires form { PathFits self.terms.now redex.path at redex.act }
-        requires fits { length self.terms.now + length free.old < 2 ^ 32 }
-        requires room { length (write (length self.terms.now) (along self.terms.now redex.path at redex.act)).entries ≤ length free.old }
-        ensures table { free.new ≡ laid free.old 0 (write (length self.entry.terms.now) (along self.entry.terms.now redex.path at redex.act)).entries }
-        ensures current { result.current ≡ (write (length self.entry.terms.now) (along self.entry.terms.now redex.path at redex.act)).place }
-        ensures used { result.used ≡ length self.entry.terms.now + length (write (length self.entry.terms.now) (along self.entry.terms.now redex.path at redex.act)).entries }
+    fn make(&self, free: &mut [Entry], at: u32, redex: Redex) -> Moved
+        requires form { PathFits self.now.terms.now redex.path at redex.act }
+        requires fits { length self.now.terms.now + length free.old < 2 ^ 32 }
+        requires room { length (write (length self.now.terms.now) (along self.now.terms.now redex.path at redex.act)).entries ≤ length free.old }
+        ensures table { free.new ≡ laid free.old 0 (write (length self.now.terms.now) (along self.now.terms.now redex.path at redex.act)).entries }
+        ensures current { result.current ≡ (write (length self.now.terms.now) (along self.now.terms.now redex.path at redex.act)).place }
+        ensures used { result.used ≡ length self.now.terms.now + length (write (length self.now.terms.now) (along self.now.terms.now redex.path at redex.act)).entries }
     {
         let base = self.terms.len() as u32;
         let mut room = Room {
@@ -70,7 +70,7 @@ impl Used<'_> {
             base,
             filled: 0,
         };
-        let current = self.make_on(&mut room, at, redex.act, redex.path);
+        let current = self.make_on(&mut room, at, &redex.act, redex.path);
         Moved {
             current,
             used: base + room.filled,
@@ -78,10 +78,10 @@ impl Used<'_> {
     }
 
     // How many places an act takes, or `limit` if it takes more.
-    fn count_act(self, act: Act, limit: u32) -> u32
-        requires form { ActFits self.terms.now act }
+    fn count_act(&self, act: Act, limit: u32) -> u32
+        requires form { ActFits self.now.terms.now act }
         requires some { 1 ≤ limit }
-        ensures { result ≡ min limit (places (act_plan self.entry.terms.now act)) }
+        ensures { result ≡ min limit (places (act_plan self.now.terms.now act)) }
     {
         match act {
             Act::Place { body, with } => Putting { used: self, with }.count(body, 0, limit),
@@ -91,10 +91,10 @@ impl Used<'_> {
     }
 
     // Are so many places enough for the act and the entries passed inward?
-    fn fits(self, act: Act, path: u32, free: u32) -> bool
-        requires form { ActFits self.terms.now act }
+    fn fits(&self, act: Act, path: u32, free: u32) -> bool
+        requires form { ActFits self.now.terms.now act }
         requires fits { free + 1 < 2 ^ 32 }
-        ensures { result ≡ nat_le (places (act_plan self.entry.terms.now act) + path) free }
+        ensures { result ≡ nat_le (places (act_plan self.now.terms.now act) + path) free }
     {
         path <= free && self.count_act(act, free - path + 1) <= free - path
     }

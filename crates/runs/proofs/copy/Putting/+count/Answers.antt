@@ -17,7 +17,7 @@ returns-then-n-eq0 t c =
 
 pub count-a-requires : goal.count-a-requires
 count-a-requires t c =
-    let e : Entry = get_or c.args.self.used.terms.now c.args.at no_entry in
+    let e : Entry = get_or c.args.self.used.now.terms.now c.args.at no_entry in
     let z = some_named c.args.self c.args.depth c.args.at c.requires.form c.named_terms-n.result c.named_terms-n.ensures c.if-n-eq0.false in
     let l = first_lower c.args.self c.args.depth c.args.at c.requires.form z in
     let m = first_copiable c.args.self c.args.depth c.args.at c.requires.form c.depth_within.result c.depth_within.ensures z in
@@ -32,7 +32,7 @@ returns-then-n-eq1 t c =
 
 pub count-b-requires : goal.count-b-requires
 count-b-requires t c =
-    let e : Entry = get_or c.args.self.used.terms.now c.args.at no_entry in
+    let e : Entry = get_or c.args.self.used.now.terms.now c.args.at no_entry in
     let o = two_named c.args.self c.args.depth c.args.at c.requires.form c.named_terms-n.result c.named_terms-n.ensures c.if-n-eq0.false c.if-n-eq1.false in
     let l = second_lower c.args.self c.args.depth c.args.at c.requires.form o in
     let m = second_copiable c.args.self c.args.depth c.args.at c.requires.form c.depth_within-2.result c.depth_within-2.ensures o in

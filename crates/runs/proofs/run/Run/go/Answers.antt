@@ -1,9 +1,8 @@
-use Rattle.std.proofs.Common.{sym, subst, ◌∙◌, ap, arith, Option, unwrap_or}
+use Rattle.std.proofs.Common.{sym, subst, arith}
 use Rattle.machine.specs.declared.condition.Condition.{Condition}
-use Rattle.machine.specs.declared.condition.Condition.TheVariants.{Going}
 use Rattle.runs.specs.declared.run.Run.{Run}
 use Rattle.runs.specs.Went.{Went}
-use Rattle.runs.proofs.Going.{ends_here, goes_on, rests_here, idle_is}
+use Rattle.runs.proofs.Going.{ends_here, goes_on, rests_here}
 use Rattle.runs.proofs.run.Run.go.Goals as goal
 
 pub returns-then-is_err : goal.returns-then-is_err
@@ -20,7 +19,7 @@ loop-made-preserved g c =
 pub returns : goal.returns
 returns g c =
     let y : Run = c.loop-made.self in
-    let k = c.unwrap_or-self.ensures ∙ (ap (λ (o : Option Condition). unwrap_or o Going) c.err.ensures.value ∙ idle_is c.find.result) in
+    let k = c.idle_by-self.ensures in
     subst (λ (k : Condition). Went (g.S.Scheme.meaning c.args.scheme.now) c.args.budget c.args.self.now (record { role = y.role; steps = y.steps; used = y.used; current = y.current; condition = k }) c.args.terms.now c.loop-made.terms c.args.budget)
     (sym k)
     (rests_here (g.S.Scheme.meaning c.args.scheme.now) c.args.budget c.loop-made.made c.args.self.now y c.args.terms.now c.loop-made.terms c.loop-made.reach
