@@ -99,17 +99,23 @@ impl<'a> TermAt<'a> {
         }
     }
 
-    // The term with those that it names. A method, since a `fmt` may not lead back to itself through `write!`.
-    fn show<W: fmt::Write>(self, f: &mut fmt::Formatter<W>) -> fmt::Result {
-        let Some(&entry) = self.terms.get(self.at as usize) else {
-            return Ok(());
-        };
+    // The line of the term. Not inlined, since what it needs of the stack would then be taken at each level of a job.
+    #[inline(never)]
+    fn show_line<W: fmt::Write>(self, entry: Entry, f: &mut fmt::Formatter<W>) -> fmt::Result {
         let form = Form {
             types: self.types,
             entry,
         };
         self.begin(f)?;
-        writeln!(f, "{form}")?;
+        writeln!(f, "{form}")
+    }
+
+    // The term with those that it names. A method, since a `fmt` may not lead back to itself through `write!`.
+    fn show<W: fmt::Write>(self, f: &mut fmt::Formatter<W>) -> fmt::Result {
+        let Some(&entry) = self.terms.get(self.at as usize) else {
+            return Ok(());
+        };
+        self.show_line(entry, f)?;
         let names = named_terms(entry.tag);
         if names > 0 {
             self.lower(entry.first).show(f)?;
