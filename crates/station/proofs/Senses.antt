@@ -1,7 +1,5 @@
 -- A verdict means what its two checks say of the term that the image stands for.
 use Rattle.std.proofs.Common.{◌≡◌, ℕ, ◌-◌, List, [], length, take, Ok, Err, Result, sym, refl, ap, ◌∙◌, subst, ap₂, arith}
-use Rattle.std.specs.Result.{MatchResult, IsErrAnd}
-use Rattle.std.proofs.lemmas.Result.{err_from_is_err_and}
 use Rattle.roles.specs.Meaning.{Meaning, Lawful}
 use Rattle.calculus.specs.Syntax.{Term}
 use Rattle.calculus.specs.Subtyping.{System, sufficient, necessary}
@@ -21,16 +19,9 @@ use Rattle.checks.specs.Checking.{walk_answer, after_form, check_of}
 use Rattle.checks.specs.Sense.{job_term, Says}
 use Rattle.checks.proofs.Meaning.{check_meant}
 use Rattle.checks.proofs.Repeating.{answers_again_lem}
-use Rattle.station.specs.declared.refusal.Refusal.{Refusal}
-use Rattle.station.specs.declared.refusal.Refusal.TheVariants.{Check}
 use Rattle.station.specs.Sense.{image_term, AnswerMeans, ImageMeans}
 use Rattle.station.proofs.Accepted.{types_front, terms_front, form_ok}
 use Rattle.station.specs.Verdicts.{of_check, checked_both, types_blank, terms_blank, after_reading, image_verdict}
-
--- an answer of a check whose fault is told as a refusal
-pub told_of_check : (a : Result ℕ CheckFault) (r : Result ℕ Refusal) → MatchResult a (λ x. r ≡ Ok x) (λ e. IsErrAnd r (λ y. y ≡ Check e)) → r ≡ of_check a
-told_of_check (Ok b) r h = h
-told_of_check (Err f) r h = let p = err_from_is_err_and r h in p.1 ∙ ap Err p.2
 
 -- the entry that an empty place holds
 pub blank_entry : (e : Entry) → (e.tag ≡ 0) × ((e.first ≡ 0) × ((e.second ≡ 0) × (e.third ≡ 0))) → e ≡ no_entry

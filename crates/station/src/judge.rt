@@ -1,13 +1,14 @@
 //! The verdict on an input.
 ghost use Rattle.std.specs.Prelude.{◌≡◌};
 ghost use Rattle.station.specs.Sense.{ImageMeans, InputMeans};
-ghost use Rattle.station.specs.Verdicts.{checked_both, image_verdict, refused, verdict_bytes, verdict_on};
+ghost use Rattle.station.specs.Verdicts.{checked_both, image_verdict, of_check, refused, verdict_bytes, verdict_on};
 
 use crate::refusal::Refusal;
 use crate::verdict::Verdict;
 use blocks::read::read_block;
 use checks::check::{check_necessary, check_sufficient};
 use checks::clearance::bound_of;
+use checks::fault::CheckFault;
 use jobs::reader::read;
 use roles::scheme::Scheme;
 use tables::entry::{Counts, Entry};
@@ -22,6 +23,13 @@ fn refuse(refusal: Refusal) -> Verdict
     }
 }
 
+// The answer of a check.
+fn told(answer: Result<u64, CheckFault>) -> Result<u64, Refusal>
+    ensures { result ≡ of_check answer }
+{
+    Ok(answer?)
+}
+
 // Both checks of a job that was read. The clearance is given up: the station starts nothing.
 fn check_both<S: Scheme>(
     scheme: &S,
@@ -31,11 +39,11 @@ fn check_both<S: Scheme>(
 ) -> Verdict
     ensures { result ≡ checked_both (S.meaning scheme.now) counts.types counts.terms types.old terms.now }
 {
-    let sufficient = bound_of(check_sufficient(scheme, counts, types, terms));
-    let necessary = check_necessary(scheme, counts, types, terms);
+    let sufficient = told(bound_of(check_sufficient(scheme, counts, types, terms)));
+    let necessary = told(check_necessary(scheme, counts, types, terms));
     Verdict {
-        sufficient: sufficient.map_err(Refusal::from),
-        necessary: necessary.map_err(Refusal::from),
+        sufficient,
+        necessary,
     }
 }
 
